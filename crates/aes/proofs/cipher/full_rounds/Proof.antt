@@ -1,0 +1,50 @@
+-- `aes::cipher::full_rounds` meets its contract: after i turns the State is that after i rounds, of every block that the
+-- first AddRoundKey takes to where the loop began.
+-- Assumes nothing.
+use mathlib.Core.Path.{_≡_, ap, _∙_}
+use mathlib.Core.List.{List}
+use Prim.Native.Nat.{ℕ, _-_, _≤_}
+use native.Mathlib.Nat.{le-antisymm}
+use borrow.Author.Needs.{needs}
+use Rattle.aes.specs.Steps.{addRoundKey}
+use Rattle.aes.specs.Cipher.{rounds}
+use Rattle.aes.proofs.CipherLaws.{rounds-more}
+use Rattle.aes.proofs.cipher.full_rounds.Statement.{statement}
+use Rattle.aes.proofs.cipher.full_rounds.Tie as tie
+
+abbrev Inv-loop : tie.InvT-loop
+Inv-loop t w n s₀ i₀ s i = (i ≤ n) × ((b : List ℕ) → s₀ ≡ addRoundKey w 0 b → s ≡ rounds w i b)
+
+abbrev μ-loop : tie.MeasureT-loop
+μ-loop t w n s₀ i₀ s i = n - i
+
+loop-holds : tie.Need-loop-holds Inv-loop μ-loop
+unfolding rounds
+loop-holds c = (search needs, λ b e. e)
+
+loop-again : tie.Need-loop-again Inv-loop μ-loop
+loop-again c =
+    let at-loop = c .before .before in
+    (search needs, λ b e. rounds-more _ b _ _ _ (at-loop .loop .inv .1 b e) (c .full-round .ensures))
+
+returns : tie.Need-returns Inv-loop μ-loop
+returns c =
+    let at-loop = c .before in
+    let at-start = at-loop .before .before .before .before in
+    at-loop .loop .inv .1 (at-start .args .block) (at-loop .before .add-round-key .ensures)
+    ∙ ap (λ (n : ℕ). rounds (at-start .args .w .now) n (at-start .args .block)) (le-antisymm (at-loop .loop .inv .0) (c .loop-test .left))
+
+pub full-rounds-spec : {M : Type 1} → statement M
+full-rounds-spec =
+    tie.close
+    (tie.spec
+    Inv-loop
+    μ-loop
+    (λ c κs. search needs)
+    loop-holds
+    (λ c. search needs)
+    (λ c κs. search needs)
+    (λ c. search needs)
+    (λ c. search needs)
+    loop-again
+    returns)

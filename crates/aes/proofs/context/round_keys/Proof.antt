@@ -1,0 +1,40 @@
+-- `aes::context::round_keys` meets its contract: the schedule stands after the two tables.
+-- Assumes nothing.
+use mathlib.Core.Path.{_≡_, ap, _∙_}
+use Prim.Native.Nat.{ℕ, _+_, _-_, _*_, _/_, _<_, _≤_}
+use native.Mathlib.Omega.{arith}
+use lib.ListN.{length, take, drop, getD}
+use borrow.Author.Needs.{needs}
+use Rattle.octets.proofs.Strings.{bytes-of}
+use Rattle.aes.specs.Schedule.{keyExpansion}
+use Rattle.aes.proofs.ScheduleLaws.{key-words, keyExpansion-octets}
+use Rattle.aes.proofs.ContextLaws.{context-keys}
+use Rattle.aes.proofs.context.round_keys.Statement.{statement}
+use Rattle.aes.proofs.context.round_keys.Tie as tie
+
+schedule-long : (c : tie.Start) → ((i : ℕ) → getD (c .args .key .now) i 0 < 256) → length (keyExpansion (c .args .key .now)) ≡ 16 * (length (c .args .key .now) / 4 + 7)
+schedule-long c b = keyExpansion-octets (c .args .key .now) (bytes-of (c .args .key .now) b) (key-words _ (c .pre .0)) .size
+
+parts : (c : tie.After-rounds-of) →
+    (take (528 + 16 * c .rounds-of .result - 512) (drop 512 (c .before .before .before .args .ctx .now)) ≡ keyExpansion (c .before .before .before .args .key .now))
+    × (528 + 16 * c .rounds-of .result ≤ length (c .before .before .before .args .ctx .now))
+parts c =
+    let at-start = c .before .before .before in
+    context-keys _ _ (at-start .pre .1) (schedule-long at-start (λ i. c .before .before .shared-slice-known .given i .fits)) _ (c .rounds-of .ensures .0)
+
+returns : tie.Need-returns
+returns c =
+    let w = parts (c .before) .0 in
+    (w, ap length w ∙ schedule-long (c .before .before .before .before) (λ i. c .before .before .before .shared-slice-known .given i .fits) ∙ omega arith)
+
+pub round-keys-spec : {M : Type 1} → statement M
+round-keys-spec =
+    tie.close
+    (tie.spec
+    (λ c κs. search needs)
+    (λ c. search needs)
+    (λ c. search needs)
+    (λ c. search needs)
+    (λ c. search needs)
+    (λ c. parts c .1)
+    returns)

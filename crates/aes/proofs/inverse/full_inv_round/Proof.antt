@@ -1,0 +1,11 @@
+-- `aes::inverse::full_inv_round` meets its contract, by those of the functions that it calls.
+-- Assumes nothing.
+use borrow.Author.Needs.{needs}
+use Rattle.aes.proofs.inverse.full_inv_round.Statement.{statement}
+use Rattle.aes.proofs.inverse.full_inv_round.Tie as tie
+
+returns : tie.Need-returns
+returns c = cc
+
+pub full-inv-round-spec : {M : Type 1} → statement M
+full-inv-round-spec = tie.close (tie.spec (λ c κs. search needs) (λ c κs. search needs) (λ c κs. search needs) returns)

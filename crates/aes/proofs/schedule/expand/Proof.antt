@@ -1,0 +1,60 @@
+-- `aes::schedule::expand` meets its contract: after m turns the key's words and m more are written, and what follows them
+-- is as it was.
+-- Assumes nothing.
+use mathlib.Core.Path.{_≡_, refl, sym, ap, _∙_}
+use mathlib.Core.List.{List, _++_}
+use Prim.Native.Nat.{ℕ, zero, suc, _+_, _*_, _/_, _-_, _≤_}
+use native.Mathlib.Omega.{arith}
+use lib.ListN.{length, drop}
+use borrow.Author.Needs.{needs}
+use Rattle.aes.specs.Schedule.{expanded, keyExpansion}
+use Rattle.aes.proofs.ScheduleLaws.{Expanding, KeyWords, key-words, expand-none, expand-turn, expand-all}
+use Rattle.aes.proofs.schedule.expand.Statement.{statement}
+use Rattle.aes.proofs.schedule.expand.Tie as tie
+
+abbrev Inv-loop : tie.InvT-loop
+Inv-loop key s w₀ nk m₀ w m = Expanding key w₀ nk w m
+
+abbrev μ-loop : tie.MeasureT-loop
+μ-loop key s w₀ nk m₀ w m = 3 * nk + 28 - m
+
+again : tie.Need-loop-again Inv-loop μ-loop
+again c =
+    let at-next = c .before .before .before .before .before in
+    let l : length (at-next .next-word .result) ≡ 4 = search needs in
+    expand-turn (at-next .next-word .result) (c .before .before .put2 .last .0) (at-next .before .before .before .loop .inv)
+    (at-next .before .before .loop-test .taken)
+    (at-next .next-word .ensures)
+    l
+    (c .before .before .put2 .ensures)
+    (c .before .w2 .given .1)
+
+returns : tie.Need-returns Inv-loop μ-loop
+returns c =
+    let at-start = c .before .before .before .before .before .before .before .before .before in
+    expand-all (at-start .args .w .now) (c .before .loop .inv) (c .loop-test .left) (c .before .before .before .before .put .ensures) (key-words _ (at-start .pre .0) .whole)
+
+pub expand-spec : {M : Type 1} → statement M
+expand-spec =
+    tie.close
+    (tie.spec
+    Inv-loop
+    μ-loop
+    (λ c κs. let k = key-words _ (c .before .before .before .before .pre .0) in search needs)
+    (λ c. expand-none _ _ _ (c .before .before .before .before .before .before .before .pre .0) (c .before .before .before .before .before .before .before .pre .1 .1) (search needs) (c .before .before .put .ensures))
+    (λ c. search needs)
+    (λ c. search needs)
+    (λ c. search needs)
+    (λ c κs. search needs)
+    (λ c. search needs)
+    (λ c. search needs)
+    (λ c. search needs)
+    (λ c. search needs)
+    (λ c. search needs)
+    (λ c. search needs)
+    (λ c κs. search needs)
+    (λ c. search needs)
+    (λ c. search needs)
+    again
+    (λ c. search needs)
+    returns)

@@ -1,0 +1,5 @@
+pub mod State
+pub mod Steps
+pub mod Schedule
+pub mod Cipher
+pub mod Context

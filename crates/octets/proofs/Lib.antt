@@ -1,0 +1,6 @@
+pub mod Strings
+pub mod Tests
+pub mod Xor
+pub mod Numbers
+pub mod Blocks
+pub mod Parts

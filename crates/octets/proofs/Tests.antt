@@ -1,0 +1,43 @@
+-- A table's rule from one computed test: what the test finds at every place below n holds at each of them.
+-- Assumes nothing.
+use mathlib.Core.Path.{_≡_, refl, sym, ap₂, subst}
+use mathlib.Core.Bool.{Bool, true, false, _&&_}
+use mathlib.Core.List.{List, [], _∷_}
+use mathlib.Core.Logic.{⊎-elim}
+use Prim.Native.Nat.{ℕ, zero, suc, _<_}
+use native.Mathlib.Nat.{le-of-suc-le-suc, not-suc-le-zero, eq-or-lt-of-le}
+use lib.Dec.{T, eqb, eqb→eq}
+
+left : (a b : Bool) → T (a && b) → T a
+left true b t = tt
+left false b t = t
+
+right : (a b : Bool) → T (a && b) → T b
+right true b t = t
+right false b t = absurd t
+
+-- two lists of numbers are the same
+abbrev pub eqs : List ℕ → List ℕ → Bool
+eqs [] [] = true
+eqs [] (y ∷ t) = false
+eqs (x ∷ s) [] = false
+eqs (x ∷ s) (y ∷ t) = eqb x y && eqs s t
+
+pub eqs→eq : (s t : List ℕ) → T (eqs s t) → s ≡ t
+eqs→eq [] [] h = refl
+eqs→eq [] (y ∷ t) h = absurd h
+eqs→eq (x ∷ s) [] h = absurd h
+eqs→eq (x ∷ s) (y ∷ t) h = ap₂ _∷_ (eqb→eq x y (left (eqb x y) (eqs s t) h)) (eqs→eq s t (right (eqb x y) (eqs s t) h))
+
+-- f and g give the same lists at each number below n
+abbrev pub agree : (ℕ → List ℕ) → (ℕ → List ℕ) → ℕ → Bool
+agree f g zero = true
+agree f g (suc n) = eqs (f n) (g n) && agree f g n
+
+pub same : (f g : ℕ → List ℕ) (n : ℕ) → T (agree f g n) → (k : ℕ) → k < n → f k ≡ g k
+same f g zero t k h = absurd (not-suc-le-zero h)
+same f g (suc n) t k h =
+    ⊎-elim
+    (λ (e : k ≡ n). rw e (eqs→eq (f n) (g n) (left (eqs (f n) (g n)) (agree f g n) t)))
+    (λ (l : k < n). same f g n (right (eqs (f n) (g n)) (agree f g n) t) k l)
+    (eq-or-lt-of-le (le-of-suc-le-suc h))

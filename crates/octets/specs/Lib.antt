@@ -1,0 +1,4 @@
+pub mod Strings
+pub mod Xor
+pub mod Numbers
+pub mod Blocks

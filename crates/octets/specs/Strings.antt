@@ -1,0 +1,21 @@
+-- Byte strings: lists of numbers below 256.
+-- Assumes nothing.
+use mathlib.Core.Path.{_≡_}
+use mathlib.Core.List.{List, [], _∷_, _++_}
+use Prim.Native.Nat.{ℕ, zero, suc, _<_}
+use lib.ListN.{length}
+
+-- every element is a byte
+abbrev pub Bytes : List ℕ → Type 0
+Bytes [] = Unit {0}
+Bytes (x ∷ s) = (x < 256) × Bytes s
+
+-- s is a string of n bytes
+pub record Octets (n : ℕ) (s : List ℕ) : Type 0 where
+  pub size : length s ≡ n
+  pub small : Bytes s
+
+-- the list f 0, f 1, .., f (n − 1)
+unfoldable pub table : (ℕ → ℕ) → ℕ → List ℕ
+table f zero = []
+table f (suc n) = table f n ++ (f n ∷ [])
