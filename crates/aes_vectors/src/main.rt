@@ -15,39 +15,23 @@ ghost use Rattle.aes.specs.Schedule.{isKey};
 ghost use Rattle.aes.specs.Cipher.{keyRounds};
 ghost use Rattle.aes.specs.Context.{contextOf};
 
-fn space() {
-    io::write_all(STDOUT_FILENO, b" ");
-}
-
-fn line_end() {
-    io::write_all(STDOUT_FILENO, b"\n");
-}
-
-fn print_bytes(s: &[u8]) {
-    let mut i = 0;
-    while i < s.len() {
-        io::print_hex(STDOUT_FILENO, s[i] as u64, 2);
-        i += 1;
-    }
-}
-
 fn print_block(s: [u8; 16]) {
-    print_bytes(&s);
+    show::bytes(&s);
 }
 
 // A space and the word at a place of a round key.
 fn print_word(k: [u8; 16], at: usize)
     requires { ⌜ at ≤ 12 ⌝ }
 {
-    space();
-    print_bytes(&k[at..at + 4]);
+    show::space();
+    show::bytes(&k[at..at + 4]);
 }
 
 fn print_heading(name: &[u8], s: &[u8]) {
     io::write_all(STDOUT_FILENO, name);
-    space();
-    print_bytes(s);
-    line_end();
+    show::space();
+    show::bytes(s);
+    show::line_end();
 }
 
 // A line of appendix A: a round key's number and its words.
@@ -62,7 +46,7 @@ fn print_round_key(key: &[u8], ctx: &aes::Context, n: usize)
     print_word(k, 4);
     print_word(k, 8);
     print_word(k, 12);
-    line_end();
+    show::line_end();
 }
 
 // Appendix A: every round key.
@@ -81,9 +65,9 @@ fn expansion(name: &[u8], key: &[u8]) {
 // A line of appendix B: the number of a round and a State.
 fn print_state(n: usize, s: [u8; 16]) {
     io::print_decimal(STDOUT_FILENO, n as u64);
-    space();
+    show::space();
     print_block(s);
-    line_end();
+    show::line_end();
 }
 
 // Appendix B: the State after each round, the last of which is the ciphertext.
@@ -105,12 +89,12 @@ fn example(name: &[u8], key: &[u8], block: [u8; 16]) {
     let mut b = block;
     aes::aes_encrypt(key, &mut b);
     io::write_all(STDOUT_FILENO, name);
-    space();
+    show::space();
     print_block(b);
     aes::aes_decrypt(key, &mut b);
-    space();
+    show::space();
     print_block(b);
-    line_end();
+    show::line_end();
 }
 
 fn main() {

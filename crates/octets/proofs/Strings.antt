@@ -8,7 +8,7 @@ use native.Mathlib.Nat.{le-of-suc-le-suc, not-suc-le-zero, eq-or-lt-of-le, le-an
 use native.Mathlib.Numerals.{add-one}
 use native.Mathlib.Omega.{arith}
 use lib.ListN.{length, take, drop, getD, set, replicate, length-append, length-set, drop-of-length-le, List·getD-append}
-use lib.Seq.{ext-getD, getD-at, set-at, drop-cons}
+use lib.Seq.{ext-getD, getD-at, getD-take, set-at, drop-cons, length-take-le}
 use Rattle.octets.specs.Strings.{Bytes, table}
 
 -- ---- every element a byte
@@ -111,3 +111,7 @@ filled-whole {f} {n} {d} v k e = filled v k ∙ rw (drop-of-length-le d {i = n} 
 -- a string is given by its own elements
 pub table-getD : (s : List ℕ) → table (λ k. getD s k 0) (length s) ≡ s
 table-getD s = table-is (λ k. getD s k 0) (length s) s refl (λ k l. refl)
+
+-- the first n bytes of a string
+pub table-take : (n : ℕ) (s : List ℕ) → n ≤ length s → table (λ k. getD s k 0) n ≡ take n s
+table-take n s h = table-is (λ k. getD s k 0) n (take n s) (length-take-le n s h) (λ k l. sym (getD-take n s k 0 l))

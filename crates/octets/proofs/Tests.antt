@@ -7,6 +7,7 @@ use mathlib.Core.Logic.{⊎-elim}
 use Prim.Native.Nat.{ℕ, zero, suc, _<_}
 use native.Mathlib.Nat.{le-of-suc-le-suc, not-suc-le-zero, eq-or-lt-of-le}
 use lib.Dec.{T, eqb, eqb→eq}
+use Rattle.octets.specs.Strings.{eqs}
 
 left : (a b : Bool) → T (a && b) → T a
 left true b t = tt
@@ -15,13 +16,6 @@ left false b t = t
 right : (a b : Bool) → T (a && b) → T b
 right true b t = t
 right false b t = absurd t
-
--- two lists of numbers are the same
-abbrev pub eqs : List ℕ → List ℕ → Bool
-eqs [] [] = true
-eqs [] (y ∷ t) = false
-eqs (x ∷ s) [] = false
-eqs (x ∷ s) (y ∷ t) = eqb x y && eqs s t
 
 pub eqs→eq : (s t : List ℕ) → T (eqs s t) → s ≡ t
 eqs→eq [] [] h = refl

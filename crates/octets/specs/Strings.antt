@@ -1,8 +1,10 @@
 -- Byte strings: lists of numbers below 256.
 -- Assumes nothing.
 use mathlib.Core.Path.{_≡_}
+use mathlib.Core.Bool.{Bool, true, false, _&&_}
 use mathlib.Core.List.{List, [], _∷_, _++_}
 use Prim.Native.Nat.{ℕ, zero, suc, _<_}
+use lib.Dec.{eqb}
 use lib.ListN.{length}
 
 -- every element is a byte
@@ -19,3 +21,10 @@ pub record Octets (n : ℕ) (s : List ℕ) : Type 0 where
 unfoldable pub table : (ℕ → ℕ) → ℕ → List ℕ
 table f zero = []
 table f (suc n) = table f n ++ (f n ∷ [])
+
+-- two strings are the same
+abbrev pub eqs : List ℕ → List ℕ → Bool
+eqs [] [] = true
+eqs [] (y ∷ t) = false
+eqs (x ∷ s) [] = false
+eqs (x ∷ s) (y ∷ t) = eqb x y && eqs s t

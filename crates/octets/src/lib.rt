@@ -4,7 +4,7 @@
 ghost use mathlib.Core.Path.{_≡_};
 ghost use mathlib.Core.List.{_++_};
 ghost use Prim.Native.Nat.{_≤_};
-ghost use lib.ListN.{length, drop};
+ghost use lib.ListN.{length, take, drop};
 ghost use Rattle.octets.specs.Xor.{xors};
 
 // The exclusive or of two blocks.
@@ -31,4 +31,18 @@ pub fn put(out: &mut [u8], s: &[u8])
         out[i] = s[i];
         i += 1;
     }
+}
+
+// The first block of a slice. To read one at a place, a caller lends the part that begins there.
+pub fn first_block(s: &[u8]) -> [u8; 16]
+    requires { ⌜ 16 ≤ length (now s) ⌝ }
+    ensures { λ r. ⌜ r ≡ take 16 (now (s .entry)) ⌝ }
+{
+    let mut r = [0u8; 16];
+    let mut i = 0;
+    while i < 16 {
+        r[i] = s[i];
+        i += 1;
+    }
+    r
 }

@@ -1,11 +1,11 @@
--- `aes_vectors::print_bytes` is safe and ends.
+-- `show::bytes` is safe and ends.
 -- Assumes nothing.
 use Prim.Native.Nat.{_≤_, _-_}
 use native.Mathlib.Omega.{arith}
 use lib.ListN.{length}
 use borrow.Author.Needs.{needs}
-use Rattle.aes_vectors.proofs.print_bytes.Statement.{statement}
-use Rattle.aes_vectors.proofs.print_bytes.Tie as tie
+use Rattle.show.proofs.bytes.Statement.{statement}
+use Rattle.show.proofs.bytes.Tie as tie
 
 abbrev Inv-loop : tie.InvT-loop
 Inv-loop s i₀ i = i ≤ length s
@@ -13,8 +13,8 @@ Inv-loop s i₀ i = i ≤ length s
 abbrev μ-loop : tie.MeasureT-loop
 μ-loop s i₀ i = length s - i
 
-pub print-bytes-spec : {M : Type 1} → statement M
-print-bytes-spec =
+pub bytes-spec : {M : Type 1} → statement M
+bytes-spec =
     tie.close
     (tie.spec
     Inv-loop

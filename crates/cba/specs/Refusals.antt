@@ -1,0 +1,93 @@
+-- What plain sealing and plain opening answer, and what they leave in the output: document 01's table, over all inputs.
+-- Assumes nothing.
+use mathlib.Core.Bool.{Bool, true, false, cond, not}
+use mathlib.Core.List.{List, [], _∷_, _++_}
+use Prim.Native.Nat.{ℕ, _+_, _-_}
+use lib.Dec.{eqb, ltb}
+use lib.ListN.{length, drop, replicate}
+use Rattle.aes.specs.Cipher.{cipher, invCipher}
+use Rattle.cba.specs.Sets.{isSet, keyBytes, tagBits, tagBytes, capacity}
+use Rattle.cba.specs.Seal.{ENC}
+use Rattle.cba.specs.Open.{Opened, DEC}
+use Rattle.cba.specs.Open.Opened.{opened, refused}
+
+-- a row of the table: a refusal's number, and whether it applies
+pub record Row : Type 0 where
+  pub number : ℕ
+  pub when : Bool
+
+-- the first that applies; 0 means accepted
+unfoldable pub answer : List Row → ℕ
+answer [] = 0
+answer (r ∷ rows) = cond (r .when) (r .number) (answer rows)
+
+-- v1-1's ENC and DEC for a set, over AES
+unfoldable pub sealing : ℕ → List ℕ → List ℕ → List ℕ → List ℕ → List ℕ
+sealing set key N A M = ENC (cipher key) (tagBits set) (capacity set) N A M
+
+unfoldable pub opening : ℕ → List ℕ → List ℕ → List ℕ → List ℕ → Opened
+opening set key N A C = DEC (cipher key) (invCipher key) (tagBits set) (capacity set) N A C
+
+-- the set's tag length in bytes
+abbrev pub setTag : ℕ → ℕ
+setTag set = tagBytes (tagBits set)
+
+-- no message seals to it, as DEC tells
+unfoldable pub isFalse : Opened → Bool
+isFalse (opened M) = false
+isFalse refused = true
+
+-- the checks that both calls begin with, in order; text is a message of at most most bytes, or a ciphertext
+abbrev pub common : ℕ → List ℕ → List ℕ → List ℕ → List ℕ → ℕ → List Row → List Row
+common set key N A text most rows =
+    record { number = 1; when = not (isSet set) }
+    ∷ record { number = 2; when = not (eqb (length key) (keyBytes set)) }
+    ∷ record { number = 3; when = not (eqb (length N) 12) }
+    ∷ record { number = 4; when = ltb 4096 (length A) }
+    ∷ record { number = 5; when = ltb most (length text) }
+    ∷ rows
+
+-- plain sealing: 1 to 5 and 7
+unfoldable pub sealRows : ℕ → List ℕ → List ℕ → List ℕ → List ℕ → List ℕ → List Row
+sealRows set key N A M out =
+    common set key N A M 65536 (record { number = 7; when = ltb (length out) (length M + setTag set) } ∷ [])
+
+-- plain opening: 1 to 8
+unfoldable pub openRows : ℕ → List ℕ → List ℕ → List ℕ → List ℕ → List ℕ → List Row
+openRows set key N A C out =
+    common set key N A C (65536 + setTag set)
+    (record { number = 6; when = ltb (length C) (setTag set) }
+    ∷ record { number = 7; when = ltb (length out) (length C - setTag set) }
+    ∷ record { number = 8; when = isFalse (opening set key N A C) }
+    ∷ [])
+
+unfoldable pub sealAnswer : ℕ → List ℕ → List ℕ → List ℕ → List ℕ → List ℕ → ℕ
+sealAnswer set key N A M out = answer (sealRows set key N A M out)
+
+unfoldable pub openAnswer : ℕ → List ℕ → List ℕ → List ℕ → List ℕ → List ℕ → ℕ
+openAnswer set key N A C out = answer (openRows set key N A C out)
+
+-- out with s over its first bytes
+abbrev pub over : List ℕ → List ℕ → List ℕ
+over s out = s ++ drop (length s) out
+
+-- sealing's output, after an answer: accepted, the sealing and the bytes after it as before; refused, as before
+unfoldable pub sealLeaves : ℕ → List ℕ → List ℕ → List ℕ
+sealLeaves a C out = cond (eqb a 0) (over C out) out
+
+-- opening's output, after an answer, of a message of n bytes: accepted, the message and the bytes after it as before; 8, zeros
+-- over the first n bytes and the others as before; any other refusal, as before
+unfoldable pub openLeaves : ℕ → ℕ → List ℕ → List ℕ → List ℕ
+openLeaves a n M out = cond (eqb a 0) (over M out) (cond (eqb a 8) (over (replicate n 0) out) out)
+
+unfoldable pub sealOutput : ℕ → List ℕ → List ℕ → List ℕ → List ℕ → List ℕ → List ℕ
+sealOutput set key N A M out = sealLeaves (sealAnswer set key N A M out) (sealing set key N A M) out
+
+-- the message of an opening
+unfoldable pub messageOf : Opened → List ℕ
+messageOf (opened M) = M
+messageOf refused = []
+
+unfoldable pub openOutput : ℕ → List ℕ → List ℕ → List ℕ → List ℕ → List ℕ → List ℕ
+openOutput set key N A C out =
+    openLeaves (openAnswer set key N A C out) (length C - setTag set) (messageOf (opening set key N A C)) out
