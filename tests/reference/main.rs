@@ -8,6 +8,7 @@
 //!   /tmp/reference ta-tags SEED COUNT
 //!   /tmp/reference toy
 //!   /tmp/reference seal SEED COUNT
+//!   /tmp/reference seal FILE
 //!
 //! It is for comparing only: slow, and its running time tells its secrets.
 
@@ -32,7 +33,8 @@ usage: reference self-test [SEED]
        reference ta-records SEED COUNT  write the same for crates/cba_vectors: set, lengths, key, data
        reference ta-tags SEED COUNT     print the tags T_A of these records, a line each
        reference toy                    print lines over a toy cipher: tau b nonce data message ciphertext
-       reference seal SEED COUNT        print lines: set key nonce data message ciphertext";
+       reference seal SEED COUNT        print lines: set key nonce data message ciphertext
+       reference seal FILE              seal by lines: set data-length message-length";
 
 fn main() {
     let args: Vec<String> = std::env::args().skip(1).collect();
@@ -53,6 +55,7 @@ fn main() {
             number(seed).and_then(|s| print_ta(Ta::Tags, s, number(count)?))
         }
         ["toy"] => print_toy(),
+        ["seal", file] => seal_file(file),
         ["seal", seed, count] => number(seed).and_then(|s| print_seal(s, number(count)?)),
         _ => Err(USAGE.to_string()),
     };
@@ -781,6 +784,55 @@ fn print_seal(seed: u64, count: u64) -> Result<(), String> {
         writeln!(out, "{} {values}", set + 1).map_err(|e| e.to_string())?;
     }
     out.flush().map_err(|e| e.to_string())
+}
+
+// ---------------------------------------------------------------------------
+// seal FILE
+
+/// Inputs by a rule, so that a file need hold only their lengths; 29 (i / 256)
+/// keeps long strings from repeating every 256 bytes.
+fn rule(s: usize, length: usize) -> Vec<u8> {
+    (0..length)
+        .map(|i| (131 * i + 17 * s + 29 * (i / 256) + 7) as u8)
+        .collect()
+}
+
+/// FNV-1a, as any program can compute it in a line.
+fn fnv(bytes: &[u8]) -> u64 {
+    bytes.iter().fold(0xcbf29ce484222325, |h, &x| {
+        (h ^ x as u64).wrapping_mul(0x100000001b3)
+    })
+}
+
+fn seal_file(file: &str) -> Result<(), String> {
+    let text = std::fs::read_to_string(file).map_err(|e| format!("{file}: {e}"))?;
+    let mut out = std::io::BufWriter::new(std::io::stdout().lock());
+    for line in text.lines() {
+        let C = seal_line(line).map_err(|why| format!("{file}: {line:?}: {why}"))?;
+        // Long ciphertexts by their hash: the file stays small.
+        let shown = if C.len() <= 200 {
+            to_hex(&C)
+        } else {
+            format!("{:016x}", fnv(&C))
+        };
+        writeln!(out, "{line} {shown}").map_err(|e| e.to_string())?;
+    }
+    out.flush().map_err(|e| e.to_string())
+}
+
+/// The ciphertext for a line `set data-length message-length`.
+fn seal_line(line: &str) -> Result<Vec<u8>, String> {
+    let numbers: Result<Vec<usize>, _> = line.split(' ').map(str::parse).collect();
+    let [set, a, message] = numbers.map_err(|e| e.to_string())?[..] else {
+        return Err("not three numbers".into());
+    };
+    ensure!((1..=SETS.len()).contains(&set), "no set {set}");
+    let (k, tau, b) = SETS[set - 1];
+    let p = Cba::new(tau, b);
+    let K = Aes::new(&rule(1, k / 8));
+    let [N, A, M] = [(2, p.nu / 8), (3, a), (4, message)].map(|(s, n)| to_bits(&rule(s, n)));
+    let C = p.ENC(&K, &N, &A, &M).ok_or("not sealed")?;
+    Ok(to_bytes(&C))
 }
 
 // ---------------------------------------------------------------------------

@@ -36,6 +36,14 @@ module _ (l t n : ℕ) where
   unfolding sealForm
   seal-single k p q = rw (lt-leb n l k, le-leb (lastLength l n + t) 16 p, lt-leb 1 (fullBlocks l n) q)
 
+  -- one block is never joined
+  pub seal-one : l < n → fullBlocks l n < 1 → sealForm l t n ≡ separate
+  seal-one k q = go (le-or-lt (lastLength l n + t) 16)
+    where
+      go : (lastLength l n + t ≤ 16) ⊎ (16 < lastLength l n + t) → sealForm l t n ≡ separate
+      go (inl p) = seal-single k p q
+      go (inr p) = seal-long k p
+
   -- what opening reads off
 
   open-short : n ≤ l + t → openForm l t n ≡ short

@@ -5,5 +5,10 @@ pub mod StartLaws
 pub mod DataLaws
 pub mod FormLaws
 pub mod SealLaws
+pub mod PieceLaws
+pub mod TailLaws
+pub mod BeginLaws
+pub mod SealForms
 pub mod Reference
 pub mod RefusalLaws
+pub mod AnswerLaws

@@ -15,7 +15,7 @@ use Rattle.cba.specs.Offsets.{doubled, times, F, start, offset, pad, lea
 use Rattle.cba.specs.Data.{blockSum, withRest, dataSum, L, dataHash, tagOfData}
 use Rattle.cba.specs.Forms.{sealForm, openForm}
 use Rattle.cba.specs.Seal
-use Rattle.cba.specs.Seal.{checksum, cipherBlocks, R, masked, shortTag, joinedBlock, joinedLast, joinedTail, lastBlock, lastOffset, separateTag, separateTail, sealAs, ENC}
+use Rattle.cba.specs.Seal.{checksum, cipherBlocks, R, masked, shortTag, joinedBlock, joinedLast, joinedEnd, joinedTail, lastBlock, lastOffset, separateTag, separateTail, sealAs, ENC}
 use Rattle.cba.specs.Open.{Opened, check, plainBlocks, joinedPlain, joinedRest, openAs, DEC}
 use Rattle.cba.specs.Open.Opened.{opened, refused}
 
@@ -56,5 +56,5 @@ rows =
     ∷ []
 
 test : T (all rows)
-unfolding E D is vector all rows xors number digits table doubled Offsets.two Offsets.three Offsets.four Offsets.five Offsets.six times F start offset pad leading lastBytes butLast blockSum withRest dataSum L dataHash tagOfData sealForm openForm checksum cipherBlocks R masked shortTag Seal.T joinedBlock joinedLast joinedTail lastBlock lastOffset separateTag separateTail sealAs ENC check plainBlocks joinedPlain joinedRest openAs DEC
+unfolding E D is vector all rows xors number digits table doubled Offsets.two Offsets.three Offsets.four Offsets.five Offsets.six times F start offset pad leading lastBytes butLast blockSum withRest dataSum L dataHash tagOfData sealForm openForm checksum cipherBlocks R masked shortTag Seal.T joinedBlock joinedLast joinedEnd joinedTail lastBlock lastOffset separateTag separateTail sealAs ENC check plainBlocks joinedPlain joinedRest openAs DEC
 test = tt

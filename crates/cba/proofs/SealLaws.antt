@@ -15,7 +15,7 @@ use Rattle.octets.proofs.Blocks.{length-block}
 use Rattle.cba.specs.Sets.{tagBytes, ell}
 use Rattle.cba.specs.Offsets.{F, start, offset, pad, leading, lastBytes}
 use Rattle.cba.specs.Data.{blockSum, withRest, dataSum, L, dataHash, tagOfData}
-use Rattle.cba.specs.Seal.{checksum, cipherBlocks, R, Δ₀, masked, shortTag, T, joinedBlock, joinedLast, joinedTail, lastBlock, lastOffset, separateTag, separateTail, sealAs, ENC}
+use Rattle.cba.specs.Seal.{checksum, cipherBlocks, R, Δ₀, masked, shortTag, T, joinedBlock, joinedLast, joinedEnd, joinedTail, lastBlock, lastOffset, separateTag, separateTail, sealAs, ENC}
 use Rattle.cba.specs.Forms.{Form, fullBlocks, lastLength, sealForm}
 use Rattle.cba.specs.Forms.Form.{short, joined, separate}
 use Rattle.cba.proofs.FormLaws.{by-form, seal-short, seal-joined, seal-long, seal-single}
@@ -125,14 +125,14 @@ module _ (E : List ℕ → List ℕ) (E-octets : (x : List ℕ) → Octets 16 x 
             small = bytes-take 16 (drop (16 * i) M) (bytes-drop (16 * i) M c);
           }
 
-      joinedBlock-octets : {m : ℕ} {Δ M X : List ℕ} → Octets 16 Δ → Octets 16 M → Octets m X → m ≤ 16 → Octets m (joinedBlock E τ b Δ M X)
+      joinedBlock-octets : {m : ℕ} {Δ M X : List ℕ} → Octets 16 Δ → Octets 16 M → Octets m X → m ≤ 16 → Octets m (joinedBlock E Δ M X)
       unfolding joinedBlock
       joinedBlock-octets {m} {Δ} {M} {X} p q o h =
           xors-octets m (subst (λ (j : ℕ). Octets m (take j (E (xors M Δ)))) (sym (o .size)) (take-octets m 16 (whitened q p) h)) o
 
       joinedTail-octets : (Tag M : List ℕ) (k r : ℕ) → Octets (tagBytes τ) Tag → Bytes M → length M ≡ 16 * suc k + r → r + tagBytes τ ≤ 16 →
-          Octets (length M + tagBytes τ) (joinedTail E τ b (Δ₀ E τ b N) Tag M k)
-      unfolding joinedTail joinedLast
+          Octets (length M + tagBytes τ) (joinedTail E (Δ₀ E τ b N) Tag M k)
+      unfolding joinedTail joinedEnd joinedLast
       joinedTail-octets Tag M k r o c h m =
           let Δ = offset-octets (suc k) Δ₀-octets in
           let C₁ = joinedBlock-octets Δ (block-octets M k c (omega arith)) (append-octets (block-rest M (suc k) r c h (omega arith)) o) m in
@@ -140,11 +140,11 @@ module _ (E : List ℕ → List ℕ) (E-octets : (x : List ℕ) → Octets 16 x 
           let p = append-octets (cipherBlocks-octets (Δ₀ E τ b N) M k Δ₀-octets c (omega arith)) (append-octets C₁ Cm) in
           record { size = p .size ∙ omega arith; small = p .small }
 
-      lastOffset-octets : {Δ : List ℕ} (n : ℕ) → Octets 16 Δ → Octets 16 (lastOffset E τ b Δ n)
+      lastOffset-octets : {Δ : List ℕ} (n : ℕ) → Octets 16 Δ → Octets 16 (lastOffset Δ n)
       unfolding lastOffset
       lastOffset-octets n o = either-octets (ltb n 16) (F-octets _ _ (F-octets 2 4 o)) (F-octets _ _ (F-octets 2 4 o))
 
-      lastBlock-octets : {m : ℕ} {Δ Tag M : List ℕ} → Octets 16 Δ → Octets (tagBytes τ) Tag → Octets m M → m ≤ 16 → Octets m (lastBlock E τ b Δ Tag M)
+      lastBlock-octets : {m : ℕ} {Δ Tag M : List ℕ} → Octets 16 Δ → Octets (tagBytes τ) Tag → Octets m M → m ≤ 16 → Octets m (lastBlock E Δ Tag M)
       unfolding lastBlock
       lastBlock-octets {m} {Δ} {Tag} {M} p q o h =
           xors-octets m o
@@ -152,7 +152,7 @@ module _ (E : List ℕ → List ℕ) (E-octets : (x : List ℕ) → Octets 16 x 
           (take-octets m 16 (whitened (leading-octets 16 q t-most) (F-octets 2 4 p)) h))
 
       separateTail-octets : (Tag M : List ℕ) (k r : ℕ) → Octets (tagBytes τ) Tag → Bytes M → length M ≡ 16 * k + r → r ≤ 16 →
-          Octets (length M + tagBytes τ) (separateTail E τ b (Δ₀ E τ b N) Tag M k)
+          Octets (length M + tagBytes τ) (separateTail E τ (Δ₀ E τ b N) Tag M k)
       unfolding separateTail separateTag
       separateTail-octets Tag M k r o c h m =
           let Δ = offset-octets k Δ₀-octets in

@@ -60,8 +60,8 @@ module _ (E D : List ℕ → List ℕ) where
         let k = fullBlocks l (length C) - 1 in
         let Δ = offset (Δ₀ E τ b N) k in
         let Ms = plainBlocks (Δ₀ E τ b N) C′ k in
-        let Mm = lastBlock E τ b Δ (T E τ b A C₀) (butLast (tagBytes τ) (drop (16 * k) C′)) in
-        check (lastBytes (tagBytes τ) C′) (separateTag E τ b Δ (T E τ b A C₀) (checksum Ms k) Mm) (masked E τ b N C₀ ++ (Ms ++ Mm))
+        let Mm = lastBlock E Δ (T E τ b A C₀) (butLast (tagBytes τ) (drop (16 * k) C′)) in
+        check (lastBytes (tagBytes τ) C′) (separateTag E τ Δ (T E τ b A C₀) (checksum Ms k) Mm) (masked E τ b N C₀ ++ (Ms ++ Mm))
 
     -- DEC(K, N, A, C)
     unfoldable pub DEC : List ℕ → List ℕ → List ℕ → Opened

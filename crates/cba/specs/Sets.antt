@@ -1,8 +1,9 @@
 -- The parameter sets of document 002, section 3.1.
 -- Assumes nothing.
+use mathlib.Core.Path.{_≡_}
 use mathlib.Core.Bool.{Bool, _&&_}
 use mathlib.Core.List.{List, [], _∷_}
-use Prim.Native.Nat.{ℕ, _-_, _*_, _/_, min}
+use Prim.Native.Nat.{ℕ, _-_, _*_, _/_, _%_, _≤_, min}
 use lib.Dec.{leb}
 use lib.ListN.{getD}
 
@@ -48,3 +49,7 @@ tagBytes τ = τ / 8
 -- ℓ = min(n − 2b − 32, τ) with n = 128, in bits
 abbrev pub ell : ℕ → ℕ → ℕ
 ell τ b = min (96 - 2 * b) τ
+
+-- what the code asks of τ and b; every set has it
+abbrev pub Fits : ℕ → ℕ → Type 0
+Fits τ b = (τ ≤ 128) × (b ≤ 48) × (ell τ b ≤ 64) × (ell τ b % 32 ≡ 0)

@@ -1,0 +1,42 @@
+-- `cba::begin::seal_first` meets its contract.
+-- Assumes nothing.
+use mathlib.Core.Path.{_≡_}
+use native.Mathlib.Omega.{arith}
+use lib.ListN.{length, length-take}
+use Rattle.aes.specs.Cipher.{cipher}
+use Rattle.cba.proofs.BeginLaws.{first-tag, first-size}
+use borrow.Author.Needs.{needs}
+use Rattle.cba.proofs.begin.seal_first.Statement.{statement}
+use Rattle.cba.proofs.begin.seal_first.Tie as tie
+
+cover-requires : tie.Need-cover-requires
+cover-requires c κs =
+    let p = c .before .before .before .before .before .before .pre in
+    (p .0, (p .1 .0, (p .1 .1 .0, (p .1 .1 .1 .0, p .1 .1 .1 .1, omega (arith, p .1 .1 .0 .0, p .1 .1 .1 .2), p .1 .1 .1 .3))))
+
+slice-aggregate-right-aligned : tie.Need-slice-aggregate-right-aligned
+slice-aggregate-right-aligned c =
+    let h = c .before .before .before .before .before .before .before .before .before .before .before .pre .1 .1 .1 in
+    let l : length (c .before .before .before .before .cover .last .1 .1 .1 .1 .1 .1 .1 .0) ≡ length (c .before .before .before .before .before .before .before .before .before .before .before .args .out .now) = search needs in
+    simp length-take (omega (arith, h .3))
+
+right-aligned-requires : tie.Need-right-aligned-requires
+right-aligned-requires c κs =
+    let p = c .before .before .before .before .before .before .before .before .before .before .before .pre .1 .1 in
+    simp length-take (omega (arith, p .0 .0, p .1 .2))
+
+returns : tie.Need-returns
+returns c =
+    let a = c .before .before .before .before .before .before .before .before .before .before .before .before .before .before .args in
+    let p = c .before .before .before .before .before .before .before .before .before .before .before .before .before .before .pre .1 .1 in
+    let b = c .before .before .before .before .before .before .before .cover .ensures in
+    let kept : length (c .before .before .before .before .before .before .before .cover .last .1 .1 .1 .1 .1 .1 .1 .0) ≡ length (a .out .now) = search needs in (
+      b .0,
+      first-tag (cipher (a .key .now)) (a .tag) (a .capacity) (a .nonce .now) (a .header .now) (a .first .now) (a .out .now) (c .before .before .before .before .before .before .before .cover .last .1 .1 .1 .1 .1 .1 .1 .0) _ _ _ (b .3) kept (p .1 .3)
+          (b .1) (b .2) (p .1 .2) (omega (arith, p .0 .0)) (c .before .before .right-aligned .ensures) (c .before .xor-block .ensures),
+      first-size (cipher (a .key .now)) (a .tag) (a .capacity) (a .nonce .now) (a .header .now) (a .first .now) (a .out .now) (c .before .before .before .before .before .before .before .cover .last .1 .1 .1 .1 .1 .1 .1 .0) (b .3) kept (p .1 .3) (b .2) (p .1 .2),
+      b .3,
+    )
+
+pub seal-first-spec : {M : Type 1} → statement M
+seal-first-spec = tie.close (tie.spec cover-requires (λ c. search needs) slice-aggregate-right-aligned right-aligned-requires (λ c κs. search needs) (λ c. search needs) returns)

@@ -1,0 +1,53 @@
+-- `cba::forms::seal_separate` meets its contract.
+-- Assumes nothing.
+use mathlib.Core.Path.{_≡_}
+use native.Mathlib.Omega.{arith}
+use lib.ListN.{length, length-take, length-drop}
+use Rattle.aes.specs.Cipher.{cipher}
+use Rattle.cba.proofs.SealForms.{separate-turn}
+use borrow.Author.Needs.{needs}
+use Rattle.cba.proofs.forms.seal_separate.Statement.{statement}
+use Rattle.cba.proofs.forms.seal_separate.Tie as tie
+
+slice-aggregate-seal-first : tie.Need-slice-aggregate-seal-first
+slice-aggregate-seal-first c =
+    let h = c .before .before .before .before .before .before .before .pre .1 .1 .1 in
+    simp length-take (omega (arith, c .before .first-bytes .ensures, h .2))
+
+seal-first-requires : tie.Need-seal-first-requires
+seal-first-requires c κs =
+    let p = c .before .before .before .before .before .before .before .before .pre in
+    let h = p .1 .1 .1 in
+    (p .0, (p .1 .0, (p .1 .1 .0, (h .0, h .1, simp length-take (omega (arith, c .before .before .first-bytes .ensures)), simp length-take (omega (arith, c .before .before .first-bytes .ensures, h .2, h .3))))))
+
+part-t-end : tie.Need-part-t-end
+part-t-end c =
+    let l : length (c .before .before .before .before .before .before .seal-first .result .tag) ≡ 16 = search needs in
+    omega (arith, l)
+
+separate-tail-requires : tie.Need-separate-tail-requires
+separate-tail-requires c κs =
+    let p = c .before .before .before .before .before .before .before .before .before .before .before .before .before .before .before .before .before .before .pre in
+    let h = p .1 .1 .1 in
+    let f = p .1 .1 .0 in
+    let t = c .before .before .before .before .tag-bytes .ensures in
+    let l = c .before .before .before .before .before .before .before .before .before .before .before .before .first-bytes .ensures in
+    let w : length (c .before .before .before .before .before .before .before .before .before .seal-first .result .tag) ≡ 16 = search needs in
+    let kept : length (c .before .before .before .before .before .before .before .before .before .seal-first .last .1 .1 .1 .1 .1 .1 .1 .0) ≡ length (c .before .before .before .before .before .before .before .before .before .before .before .before .before .before .before .before .before .before .args .out .now) = search needs in
+    (p .0, (p .1 .0, (simp (length-take, length-drop) (omega (arith, f .0)), omega (arith, f .0), simp (length-take, length-drop) (omega (arith, h .2)), simp (length-take, length-drop) (omega (arith, h .2, h .3)))))
+
+returns : tie.Need-returns
+returns c =
+    let a = c .before .before .before .before .before .before .before .before .before .before .before .before .before .before .before .before .before .before .before .before .before .args in
+    let f = c .before .before .before .before .before .before .before .before .before .before .before .before .before .before .before .before .before .before .before .before .before .pre .1 .1 .0 in
+    let h = c .before .before .before .before .before .before .before .before .before .before .before .before .before .before .before .before .before .before .before .before .before .pre .1 .1 .1 in
+    let b = c .before .before .before .before .before .before .before .before .before .before .before .before .seal-first .ensures in
+    let w : length (c .before .before .before .before .before .before .before .before .before .before .before .before .seal-first .result .tag) ≡ 16 = search needs in
+    let kept : length (c .before .before .before .before .before .before .before .before .before .before .before .before .seal-first .last .1 .1 .1 .1 .1 .1 .1 .0) ≡ length (a .out .now) = search needs in
+    let l = c .before .before .before .before .before .before .before .before .before .before .before .before .before .before .before .first-bytes .ensures in
+    separate-turn (cipher (a .key .now)) (a .tag) (a .capacity) (a .nonce .now) (a .header .now) (a .text .now) (a .out .now) (c .before .before .before .before .before .before .before .before .before .before .before .before .seal-first .last .1 .1 .1 .1 .1 .1 .1 .0) (c .before .before .separate-tail .last .1 .1 .1 .1 .1 .1 .0)
+    (c .before .before .before .before .before .before .before .before .before .before .before .before .seal-first .result .tag) _ (c .before .before .before .before .before .before .before .before .before .before .before .before .before .before .before .first-bytes .result) (c .before .before .before .before .before .before .before .tag-bytes .result) l (c .before .before .before .before .before .before .before .tag-bytes .ensures) (omega (arith, l, h .2)) (h .3) (omega (arith, f .0))
+    (b .3) kept w (b .1) (b .2) (b .0) (c .before .before .separate-tail .ensures) (search needs)
+
+pub seal-separate-spec : {M : Type 1} → statement M
+seal-separate-spec = tie.close (tie.spec (λ c κs. search needs) slice-aggregate-seal-first seal-first-requires (λ c κs. search needs) (λ c. search needs) (λ c. search needs) (λ c. search needs) part-t-end (λ c. search needs) (λ c. search needs) (λ c. search needs) (λ c. search needs) (λ c. search needs) (λ c. search needs) separate-tail-requires (λ c. search needs) returns)

@@ -1,0 +1,19 @@
+-- `cba::seal::cba_seal` meets its contract.
+-- Assumes nothing.
+use native.Mathlib.Omega.{arith}
+use Rattle.cba.proofs.AnswerLaws.{is-unknown, refuse-set, untouched}
+use borrow.Author.Needs.{needs}
+use Rattle.cba.proofs.seal.cba_seal.Statement.{statement}
+use Rattle.cba.proofs.seal.cba_seal.Tie as tie
+
+seal-known-requires : tie.Need-seal-known-requires
+seal-known-requires c κs = cc
+
+returns-2 : tie.Need-returns-2
+returns-2 c =
+    let a = c .before .before .before .before .before .before .before .before .args in
+    let e = refuse-set (a .set) (a .key .now) (a .nonce .now) (a .header .now) (a .text .now) (a .out .now) (is-unknown (a .set) cc) in
+    (e, untouched (a .set) (a .key .now) (a .nonce .now) (a .header .now) (a .text .now) (a .out .now) 1 e (λ z. omega (arith, z)))
+
+pub cba-seal-spec : {M : Type 1} → statement M
+cba-seal-spec = tie.close (tie.spec (λ c κs. search needs) (λ c. search needs) seal-known-requires (λ c. search needs) (λ c. search needs) (λ c. search needs) returns-2)
