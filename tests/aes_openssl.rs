@@ -5,6 +5,9 @@
 //! A run prints its seed, and the same seed makes the same run. The exit status is 0 where there is no
 //! difference, 1 where there is one, 2 where SEED is no number, and 101 where openssl cannot be run.
 
+mod random;
+
+use random::Random;
 use std::io::Write;
 use std::process::{exit, Command, Stdio};
 use std::thread;
@@ -40,18 +43,7 @@ fn back(way: Way) -> Way {
     }
 }
 
-/// Numbers that depend on the seed alone (splitmix64).
-struct Random(u64);
-
 impl Random {
-    fn number(&mut self) -> u64 {
-        self.0 = self.0.wrapping_add(0x9e37_79b9_7f4a_7c15);
-        let mut z = self.0;
-        z = (z ^ (z >> 30)).wrapping_mul(0xbf58_476d_1ce4_e5b9);
-        z = (z ^ (z >> 27)).wrapping_mul(0x94d0_49bb_1331_11eb);
-        z ^ (z >> 31)
-    }
-
     fn bytes(&mut self, count: usize) -> Vec<u8> {
         (0..count).map(|_| self.number() as u8).collect()
     }

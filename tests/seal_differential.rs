@@ -15,9 +15,11 @@ mod aes;
 #[path = "reference/cba.rs"]
 #[allow(dead_code, unused_imports)]
 mod cba;
+mod random;
 
 use aes::Aes;
 use cba::{Bits, Blockcipher, Cba, SETS};
+use random::Random;
 use std::alloc::{alloc_zeroed, Layout};
 use std::array::from_fn;
 use std::borrow::Borrow;
@@ -143,18 +145,7 @@ fn form(s: Set, text: usize) -> usize {
 // ---------------------------------------------------------------------------
 // Calls.
 
-/// Numbers that depend on the seed alone (splitmix64).
-struct Random(u64);
-
 impl Random {
-    fn number(&mut self) -> u64 {
-        self.0 = self.0.wrapping_add(0x9e37_79b9_7f4a_7c15);
-        let mut z = self.0;
-        z = (z ^ (z >> 30)).wrapping_mul(0xbf58_476d_1ce4_e5b9);
-        z = (z ^ (z >> 27)).wrapping_mul(0x94d0_49bb_1331_11eb);
-        z ^ (z >> 31)
-    }
-
     fn below(&mut self, bound: usize) -> usize {
         (self.number() % bound as u64) as usize
     }

@@ -17,9 +17,12 @@
 
 mod aes;
 mod cba;
+#[path = "../random.rs"]
+mod random;
 
 use aes::Aes;
 use cba::{cat, i_8, one, pad_i, rotr, times, zero, Bits, Blockcipher, Cba, LSB, MSB, SETS};
+use random::Random;
 use std::borrow::Borrow;
 use std::cell::Cell;
 use std::collections::BTreeSet;
@@ -123,30 +126,20 @@ fn from_hex(hex: &str) -> Result<Vec<u8>, String> {
     Ok((0..hex.len()).step_by(2).map(byte).collect())
 }
 
-/// Splitmix64.
-struct Random(u64);
-
 impl Random {
-    fn next(&mut self) -> u64 {
-        self.0 = self.0.wrapping_add(0x9e3779b97f4a7c15);
-        let z = (self.0 ^ self.0 >> 30).wrapping_mul(0xbf58476d1ce4e5b9);
-        let z = (z ^ z >> 27).wrapping_mul(0x94d049bb133111eb);
-        z ^ z >> 31
-    }
-
     /// Below the bound; the bounds here are far below 2^64.
     fn below(&mut self, bound: usize) -> usize {
-        (self.next() % bound as u64) as usize
+        (self.number() % bound as u64) as usize
     }
 
     fn bytes(&mut self, count: usize) -> Vec<u8> {
-        (0..count).map(|_| self.next() as u8).collect()
+        (0..count).map(|_| self.number() as u8).collect()
     }
 
     fn bits(&mut self, count: usize) -> Bits {
         let mut bits = vec![];
         while bits.len() < count {
-            let x = self.next();
+            let x = self.number();
             bits.extend((0..64.min(count - bits.len())).map(|j| x >> j & 1 == 1));
         }
         Bits(bits)
@@ -301,7 +294,7 @@ fn notation(random: &mut Random) -> Result<String, String> {
     for alpha in 2..=6 {
         for (width, x) in (0..256)
             .map(|x| (8, x))
-            .chain((0..1000).map(|_| (64, random.next())))
+            .chain((0..1000).map(|_| (64, random.number())))
         {
             let got = bits_number(&times(alpha, number_bits(x, width)));
             ensure!(

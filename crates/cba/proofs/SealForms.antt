@@ -22,6 +22,20 @@ pub part-sizes : (m whole : List ℕ) (l t : ℕ) → length whole ≡ 16 → t 
     (length (take (length m - l) (drop l m)) ≡ length m - l) × (length (take (16 - (16 - t)) (drop (16 - t) whole)) ≡ t)
 part-sizes m whole l t w h = (ap length (to-end m l) ∙ length-drop l m, simp (length-take, length-drop) (omega arith))
 
+-- Before the tail of a message m is written: C_0 stands over d, whole is T with zeros before it, l and t are ℓ and τ in bytes.
+pub record Headed (E : List ℕ → List ℕ) (τ b : ℕ) (N A m d out whole Δ : List ℕ) (l t : ℕ) : Type 0 where
+  pub bits : l ≡ ell τ b / 8
+  pub tags : t ≡ tagBytes τ
+  pub longer : l ≤ length m
+  pub room : length m + tagBytes τ ≤ length d
+  pub at-most : tagBytes τ ≤ 16
+  pub head : out ≡ masked E τ b N (take l m) ++ drop (length (take l m)) d
+  pub kept : length out ≡ length d
+  pub block : length whole ≡ 16
+  pub holds : whole ≡ leading 16 (T E τ b A (masked E τ b N (take l m)))
+  pub size : length (T E τ b A (masked E τ b N (take l m))) ≡ tagBytes τ
+  pub start : Δ ≡ Δ₀ E τ b N
+
 module _ (E : List ℕ → List ℕ) (τ b : ℕ) (N A : List ℕ) where
   pub short-turn : (m d out ta off e w : List ℕ) → out ≡ masked E τ b N m ++ drop (length m) d → length out ≡ length d → length m + tagBytes τ ≤ length d → tagBytes τ ≤ 16 →
       ta ≡ leading 16 (tagOfData E τ b A) → off ≡ Δ₀ E τ b N → e ≡ E (xors (xors ta (pad (take (length m) out))) (F 3 3 off)) → length e ≡ 16 →
@@ -46,57 +60,51 @@ module _ (E : List ℕ → List ℕ) (τ b : ℕ) (N A : List ℕ) where
       take-all (16 - (16 - n)) (drop (16 - n) t) (simp length-drop (omega arith)) ∙ ap (drop (16 - n)) w ∙ drop-at z Tag (16 - n) (length-replicate (16 - n) 0)
 
   -- what follows C_0, by a writer of it that is lent the rest of out: G is the joined or the separate tail
-  tail-turn : (G : List ℕ → List ℕ → List ℕ → List ℕ) (m d out w whole Δ : List ℕ) (l t : ℕ) → let C = masked E τ b N (take l m) in
-      l ≡ ell τ b / 8 → t ≡ tagBytes τ → l ≤ length m → length m + tagBytes τ ≤ length d → tagBytes τ ≤ 16 →
-      out ≡ C ++ drop (length (take l m)) d → length out ≡ length d → length whole ≡ 16 → whole ≡ leading 16 (T E τ b A C) → length (T E τ b A C) ≡ tagBytes τ →
-      Δ ≡ Δ₀ E τ b N → w ≡ G Δ (take (16 - (16 - t)) (drop (16 - t) whole)) (take (length m - l) (drop l m))
+  tail-turn : (G : List ℕ → List ℕ → List ℕ → List ℕ) {m d out whole Δ : List ℕ} {l t : ℕ} (w : List ℕ) → Headed E τ b N A m d out whole Δ l t →
+      w ≡ G Δ (take (16 - (16 - t)) (drop (16 - t) whole)) (take (length m - l) (drop l m))
       ++ drop (length (take (length m - l) (drop l m)) + tagBytes τ) (take (length out - l) (drop l out)) →
       length w ≡ length (take (length out - l) (drop l out)) →
       take l out ++ (w ++ drop (length out - l) (drop l out))
       ≡ (let L = ell τ b / 8 in masked E τ b N (take L m) ++ G (Δ₀ E τ b N) (T E τ b A (masked E τ b N (take L m))) (drop L m)) ++ drop (length m + tagBytes τ) d
-  tail-turn G m d out w whole Δ l t el et hl hd ht eo lo lw ew lT eΔ e le =
+  tail-turn G {m} {d} {out} {whole} {Δ} {l} {t} w v e le =
       let C = masked E τ b N (take l m) in
       let tag = take (16 - (16 - t)) (drop (16 - t) whole) in
       let rest = take (length m - l) (drop l m) in
       let n : length (take l m) ≡ l = simp length-take (omega arith) in
       let er : rest ≡ drop l m = to-end m l in
       let lr : length rest ≡ length m - l = ap length er ∙ length-drop l m in
-      let eT : tag ≡ T E τ b A C = tag-end whole (T E τ b A C) t ew (lT ∙ sym et) (omega arith) lw in
+      let eT : tag ≡ T E τ b A C = tag-end whole (T E τ b A C) t (v .holds) (v .size ∙ sym (v .tags)) (omega arith) (v .block) in
       let all : l + (length rest + tagBytes τ) ≡ length m + tagBytes τ = omega (arith, lr) in
-      let same : G Δ tag rest ≡ G (Δ₀ E τ b N) (T E τ b A C) (drop l m) = rw (eΔ, eT, er) refl in
-      then d C out (G Δ tag rest) w l (length rest + tagBytes τ) (eo ∙ ap (λ (k : ℕ). C ++ drop k d) n) lo (omega (arith, lr)) e le
+      let same : G Δ tag rest ≡ G (Δ₀ E τ b N) (T E τ b A C) (drop l m) = rw (v .start, eT, er) refl in
+      then d C out (G Δ tag rest) w l (length rest + tagBytes τ) (v .head ∙ ap (λ (k : ℕ). C ++ drop k d) n) (v .kept) (omega (arith, lr)) e le
       ∙ ap₂ (λ (x : List ℕ) (k : ℕ). (C ++ x) ++ drop k d) same all
-      ∙ ap (λ (k : ℕ). (masked E τ b N (take k m) ++ G (Δ₀ E τ b N) (T E τ b A (masked E τ b N (take k m))) (drop k m)) ++ drop (length m + tagBytes τ) d) el
+      ∙ ap (λ (k : ℕ). (masked E τ b N (take k m) ++ G (Δ₀ E τ b N) (T E τ b A (masked E τ b N (take k m))) (drop k m)) ++ drop (length m + tagBytes τ) d) (v .bits)
 
-  pub separate-turn : (m d out w whole Δ : List ℕ) (l t : ℕ) → let C = masked E τ b N (take l m) in
-      l ≡ ell τ b / 8 → t ≡ tagBytes τ → l ≤ length m → length m + tagBytes τ ≤ length d → tagBytes τ ≤ 16 →
-      out ≡ C ++ drop (length (take l m)) d → length out ≡ length d → length whole ≡ 16 → whole ≡ leading 16 (T E τ b A C) → length (T E τ b A C) ≡ tagBytes τ →
-      Δ ≡ Δ₀ E τ b N → w ≡ separateTail E τ Δ (take (16 - (16 - t)) (drop (16 - t) whole)) (take (length m - l) (drop l m)) ((length (take (length m - l) (drop l m)) - 1) / 16)
+  pub separate-turn : {m d out whole Δ : List ℕ} {l t : ℕ} (w : List ℕ) → Headed E τ b N A m d out whole Δ l t →
+      w ≡ separateTail E τ Δ (take (16 - (16 - t)) (drop (16 - t) whole)) (take (length m - l) (drop l m)) ((length (take (length m - l) (drop l m)) - 1) / 16)
       ++ drop (length (take (length m - l) (drop l m)) + tagBytes τ) (take (length out - l) (drop l out)) →
       length w ≡ length (take (length out - l) (drop l out)) →
       take l out ++ (w ++ drop (length out - l) (drop l out)) ≡ sealAs E τ b separate N A m ++ drop (length m + tagBytes τ) d
   unfolding sealAs
-  separate-turn m d out w whole Δ l t el et hl hd ht eo lo lw ew lT eΔ e le =
+  separate-turn {m} {d} w v e le =
       let L = ell τ b / 8 in
       let C = masked E τ b N (take L m) in
-      tail-turn (λ Δ Tag M. separateTail E τ Δ Tag M ((length M - 1) / 16)) m d out w whole Δ l t el et hl hd ht eo lo lw ew lT eΔ e le
+      tail-turn (λ Δ Tag M. separateTail E τ Δ Tag M ((length M - 1) / 16)) w v e le
       ∙ ap (λ (n : ℕ). (C ++ separateTail E τ (Δ₀ E τ b N) (T E τ b A C) (drop L m) ((n - 1) / 16)) ++ drop (length m + tagBytes τ) d) (length-drop L m)
 
-  pub joined-turn : (m d out w whole Δ : List ℕ) (l t : ℕ) → let C = masked E τ b N (take l m) in
-      l ≡ ell τ b / 8 → t ≡ tagBytes τ → l ≤ length m → length m + tagBytes τ ≤ length d → tagBytes τ ≤ 16 →
-      out ≡ C ++ drop (length (take l m)) d → length out ≡ length d → length whole ≡ 16 → whole ≡ leading 16 (T E τ b A C) → length (T E τ b A C) ≡ tagBytes τ →
-      Δ ≡ Δ₀ E τ b N → w ≡ joinedTail E Δ (take (16 - (16 - t)) (drop (16 - t) whole)) (take (length m - l) (drop l m)) ((length (take (length m - l) (drop l m)) - 1) / 16 - 1)
+  pub joined-turn : {m d out whole Δ : List ℕ} {l t : ℕ} (w : List ℕ) → Headed E τ b N A m d out whole Δ l t →
+      w ≡ joinedTail E Δ (take (16 - (16 - t)) (drop (16 - t) whole)) (take (length m - l) (drop l m)) ((length (take (length m - l) (drop l m)) - 1) / 16 - 1)
       ++ drop (length (take (length m - l) (drop l m)) + length (take (16 - (16 - t)) (drop (16 - t) whole))) (take (length out - l) (drop l out)) →
       length w ≡ length (take (length out - l) (drop l out)) →
       take l out ++ (w ++ drop (length out - l) (drop l out)) ≡ sealAs E τ b joined N A m ++ drop (length m + tagBytes τ) d
   unfolding sealAs
-  joined-turn m d out w whole Δ l t el et hl hd ht eo lo lw ew lT eΔ e le =
+  joined-turn {m} {d} {out} {whole} {Δ} {l} {t} w v e le =
       let L = ell τ b / 8 in
       let C = masked E τ b N (take L m) in
       let rest = take (length m - l) (drop l m) in
       let tag = take (16 - (16 - t)) (drop (16 - t) whole) in
-      let size : length tag ≡ tagBytes τ = simp (length-take, length-drop) (omega arith) in
-      tail-turn (λ Δ Tag M. joinedTail E Δ Tag M ((length M - 1) / 16 - 1)) m d out w whole Δ l t el et hl hd ht eo lo lw ew lT eΔ
+      let size : length tag ≡ tagBytes τ = part-sizes m whole l t (v .block) (omega arith) .1 ∙ v .tags in
+      tail-turn (λ Δ Tag M. joinedTail E Δ Tag M ((length M - 1) / 16 - 1)) w v
       (e ∙ ap (λ (k : ℕ). joinedTail E Δ tag rest ((length rest - 1) / 16 - 1) ++ drop (length rest + k) (take (length out - l) (drop l out))) size) le
       ∙ ap (λ (n : ℕ). (C ++ joinedTail E (Δ₀ E τ b N) (T E τ b A C) (drop L m) ((n - 1) / 16 - 1)) ++ drop (length m + tagBytes τ) d) (length-drop L m)
 

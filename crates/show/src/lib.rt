@@ -1,4 +1,7 @@
 // What the programs that run vectors write to standard output.
+//
+// No contract can say which bytes a call of C's writes, and these return nothing: they are held to
+// the programs' file stdout.
 use libc::STDOUT_FILENO;
 
 pub fn space() {

@@ -1,9 +1,11 @@
 -- `cba::forms::seal_separate` meets its contract.
 -- Assumes nothing.
 use mathlib.Core.Path.{_≡_}
+use Prim.Native.Nat.{_≤_}
 use native.Mathlib.Omega.{arith}
 use lib.ListN.{length, length-take, length-drop}
 use Rattle.aes.specs.Cipher.{cipher}
+use Rattle.cba.specs.Sets.{tagBytes}
 use Rattle.cba.proofs.SealForms.{separate-turn}
 use borrow.Author.Needs.{needs}
 use Rattle.cba.proofs.forms.seal_separate.Statement.{statement}
@@ -38,16 +40,34 @@ separate-tail-requires c κs =
 
 returns : tie.Need-returns
 returns c =
-    let a = c .before .before .before .before .before .before .before .before .before .before .before .before .before .before .before .before .before .before .before .before .before .args in
-    let f = c .before .before .before .before .before .before .before .before .before .before .before .before .before .before .before .before .before .before .before .before .before .pre .1 .1 .0 in
-    let h = c .before .before .before .before .before .before .before .before .before .before .before .before .before .before .before .before .before .before .before .before .before .pre .1 .1 .1 in
-    let b = c .before .before .before .before .before .before .before .before .before .before .before .before .seal-first .ensures in
-    let w : length (c .before .before .before .before .before .before .before .before .before .before .before .before .seal-first .result .tag) ≡ 16 = search needs in
-    let kept : length (c .before .before .before .before .before .before .before .before .before .before .before .before .seal-first .last .1 .1 .1 .1 .1 .1 .1 .0) ≡ length (a .out .now) = search needs in
-    let l = c .before .before .before .before .before .before .before .before .before .before .before .before .before .before .before .first-bytes .ensures in
-    separate-turn (cipher (a .key .now)) (a .tag) (a .capacity) (a .nonce .now) (a .header .now) (a .text .now) (a .out .now) (c .before .before .before .before .before .before .before .before .before .before .before .before .seal-first .last .1 .1 .1 .1 .1 .1 .1 .0) (c .before .before .separate-tail .last .1 .1 .1 .1 .1 .1 .0)
-    (c .before .before .before .before .before .before .before .before .before .before .before .before .seal-first .result .tag) _ (c .before .before .before .before .before .before .before .before .before .before .before .before .before .before .before .first-bytes .result) (c .before .before .before .before .before .before .before .tag-bytes .result) l (c .before .before .before .before .before .before .before .tag-bytes .ensures) (omega (arith, l, h .2)) (h .3) (omega (arith, f .0))
-    (b .3) kept w (b .1) (b .2) (b .0) (c .before .before .separate-tail .ensures) (search needs)
+    let size : length (c .before .before .before .before .before .before .before .before .before .before .before .before .seal-first .result .tag) ≡ 16 = search needs in
+    let kept : length (c .before .before .before .before .before .before .before .before .before .before .before .before .seal-first .last .1 .1 .1 .1 .1 .1 .1 .0) ≡ length (c .before .before .before .before .before .before .before .before .before .before .before .before .before .before .before .before .before .before .before .before .before .args .out .now) = search needs in
+    let at-tail = c .before .before in
+    let at-tag = at-tail .before .before .before .before .before in
+    let at-first = at-tag .before .before .before .before .before in
+    let at-bytes = at-first .before .before .before in
+    let entry = at-bytes .before .before .before .before .before .before in
+    let a = entry .args in
+    let h = entry .pre .1 .1 .1 in
+    let t : tagBytes (a .tag) ≤ 16 = omega (arith, entry .pre .1 .1 .0 .0) in
+    let b = at-first .seal-first .ensures in
+    let l = at-bytes .first-bytes .ensures in
+    separate-turn (cipher (a .key .now)) (a .tag) (a .capacity) (a .nonce .now) (a .header .now) (at-tail .separate-tail .last .1 .1 .1 .1 .1 .1 .0)
+    (record {
+      bits = l;
+      tags = at-tag .tag-bytes .ensures;
+      longer = omega (arith, l, h .2);
+      room = h .3;
+      at-most = t;
+      head = b .3;
+      kept = kept;
+      block = size;
+      holds = b .1;
+      size = b .2;
+      start = b .0;
+    })
+    (at-tail .separate-tail .ensures)
+    (search needs)
 
 pub seal-separate-spec : {M : Type 1} → statement M
 seal-separate-spec = tie.close (tie.spec (λ c κs. search needs) slice-aggregate-seal-first seal-first-requires (λ c κs. search needs) (λ c. search needs) (λ c. search needs) (λ c. search needs) part-t-end (λ c. search needs) (λ c. search needs) (λ c. search needs) (λ c. search needs) (λ c. search needs) (λ c. search needs) separate-tail-requires (λ c. search needs) returns)
