@@ -9,6 +9,7 @@
 //!   /tmp/reference toy
 //!   /tmp/reference seal SEED COUNT
 //!   /tmp/reference seal FILE
+//!   /tmp/reference open FILE
 //!
 //! It is for comparing only: slow, and its running time tells its secrets.
 
@@ -16,11 +17,13 @@
 #![allow(non_snake_case)]
 
 mod aes;
+mod bytes;
 mod cba;
 #[path = "../random.rs"]
 mod random;
 
 use aes::Aes;
+use bytes::{from_hex, to_bits, to_bytes, to_hex};
 use cba::{cat, i_8, one, pad_i, rotr, times, zero, Bits, Blockcipher, Cba, LSB, MSB, SETS};
 use random::Random;
 use std::borrow::Borrow;
@@ -37,7 +40,8 @@ usage: reference self-test [SEED]
        reference ta-tags SEED COUNT     print the tags T_A of these records, a line each
        reference toy                    print lines over a toy cipher: tau b nonce data message ciphertext
        reference seal SEED COUNT        print lines: set key nonce data message ciphertext
-       reference seal FILE              seal by lines: set data-length message-length";
+       reference seal FILE              seal by lines: set data-length message-length
+       reference open FILE              open by lines: set data-length message-length change";
 
 fn main() {
     let args: Vec<String> = std::env::args().skip(1).collect();
@@ -58,7 +62,8 @@ fn main() {
             number(seed).and_then(|s| print_ta(Ta::Tags, s, number(count)?))
         }
         ["toy"] => print_toy(),
-        ["seal", file] => seal_file(file),
+        ["seal", file] => by_lines(file, seal_line),
+        ["open", file] => by_lines(file, open_line),
         ["seal", seed, count] => number(seed).and_then(|s| print_seal(s, number(count)?)),
         _ => Err(USAGE.to_string()),
     };
@@ -77,24 +82,7 @@ macro_rules! ensure {
 }
 
 // ---------------------------------------------------------------------------
-// Strings of bits, bytes and hex; random values.
-
-fn to_bits(bytes: &[u8]) -> Bits {
-    Bits(
-        bytes
-            .iter()
-            .flat_map(|x| (0..8).rev().map(move |j| x >> j & 1 == 1))
-            .collect(),
-    )
-}
-
-fn to_bytes(bits: &Bits) -> Vec<u8> {
-    assert!(bits.len() % 8 == 0, "not whole bytes");
-    bits.0
-        .chunks_exact(8)
-        .map(|c| c.iter().fold(0, |x, &bit| x << 1 | bit as u8))
-        .collect()
-}
+// Numbers as strings of bits; random values.
 
 /// The number x in the given count of bits.
 fn number_bits(x: u64, count: usize) -> Bits {
@@ -103,27 +91,6 @@ fn number_bits(x: u64, count: usize) -> Bits {
 
 fn bits_number(bits: &Bits) -> u64 {
     bits.0.iter().fold(0, |x, &bit| x << 1 | bit as u64)
-}
-
-/// Lower-case hex, `-` for nothing.
-fn to_hex(bytes: &[u8]) -> String {
-    if bytes.is_empty() {
-        "-".into()
-    } else {
-        bytes.iter().map(|x| format!("{x:02x}")).collect()
-    }
-}
-
-fn from_hex(hex: &str) -> Result<Vec<u8>, String> {
-    if hex == "-" {
-        return Ok(vec![]);
-    }
-    let good = !hex.is_empty()
-        && hex.len() % 2 == 0
-        && hex.bytes().all(|c| matches!(c, b'0'..=b'9' | b'a'..=b'f'));
-    ensure!(good, "not lower-case hex: {hex:?}");
-    let byte = |i: usize| u8::from_str_radix(&hex[i..i + 2], 16).unwrap();
-    Ok((0..hex.len()).step_by(2).map(byte).collect())
 }
 
 impl Random {
@@ -148,15 +115,6 @@ impl Random {
 
 // ---------------------------------------------------------------------------
 // Block ciphers.
-
-impl Blockcipher for Aes {
-    fn E(&self, X: impl Borrow<Bits>) -> Bits {
-        to_bits(&self.encrypt(&to_bytes(X.borrow()).try_into().expect("16 bytes")))
-    }
-    fn D(&self, X: impl Borrow<Bits>) -> Bits {
-        to_bits(&self.decrypt(&to_bytes(X.borrow()).try_into().expect("16 bytes")))
-    }
-}
 
 /// AES with its calls counted.
 struct Counted(Aes, Cell<usize>);
@@ -780,7 +738,7 @@ fn print_seal(seed: u64, count: u64) -> Result<(), String> {
 }
 
 // ---------------------------------------------------------------------------
-// seal FILE
+// seal FILE, open FILE
 
 /// Inputs by a rule, so that a file need hold only their lengths; 29 (i / 256)
 /// keeps long strings from repeating every 256 bytes.
@@ -797,24 +755,29 @@ fn fnv(bytes: &[u8]) -> u64 {
     })
 }
 
-fn seal_file(file: &str) -> Result<(), String> {
+/// Long strings by their hash: the file stays small.
+fn shown(bytes: &[u8]) -> String {
+    if bytes.len() <= 200 {
+        to_hex(bytes)
+    } else {
+        format!("{:016x}", fnv(bytes))
+    }
+}
+
+/// Writes each line of a file with what the function makes of it.
+fn by_lines(file: &str, of_line: fn(&str) -> Result<String, String>) -> Result<(), String> {
     let text = std::fs::read_to_string(file).map_err(|e| format!("{file}: {e}"))?;
     let mut out = std::io::BufWriter::new(std::io::stdout().lock());
     for line in text.lines() {
-        let C = seal_line(line).map_err(|why| format!("{file}: {line:?}: {why}"))?;
-        // Long ciphertexts by their hash: the file stays small.
-        let shown = if C.len() <= 200 {
-            to_hex(&C)
-        } else {
-            format!("{:016x}", fnv(&C))
-        };
-        writeln!(out, "{line} {shown}").map_err(|e| e.to_string())?;
+        let result = of_line(line).map_err(|why| format!("{file}: {line:?}: {why}"))?;
+        writeln!(out, "{line} {result}").map_err(|e| e.to_string())?;
     }
     out.flush().map_err(|e| e.to_string())
 }
 
-/// The ciphertext for a line `set data-length message-length`.
-fn seal_line(line: &str) -> Result<Vec<u8>, String> {
+/// What a line `set data-length message-length` stands for: parameters, key,
+/// nonce, data, and the ciphertext of the message.
+fn sealed_by_rule(line: &str) -> Result<(Cba, Aes, Bits, Bits, Vec<u8>), String> {
     let numbers: Result<Vec<usize>, _> = line.split(' ').map(str::parse).collect();
     let [set, a, message] = numbers.map_err(|e| e.to_string())?[..] else {
         return Err("not three numbers".into());
@@ -825,7 +788,47 @@ fn seal_line(line: &str) -> Result<Vec<u8>, String> {
     let K = Aes::new(&rule(1, k / 8));
     let [N, A, M] = [(2, p.nu / 8), (3, a), (4, message)].map(|(s, n)| to_bits(&rule(s, n)));
     let C = p.ENC(&K, &N, &A, &M).ok_or("not sealed")?;
-    Ok(to_bytes(&C))
+    Ok((p, K, N, A, to_bytes(&C)))
+}
+
+fn seal_line(line: &str) -> Result<String, String> {
+    let (.., C) = sealed_by_rule(line)?;
+    Ok(shown(&C))
+}
+
+/// The change of a ciphertext: `=` for none, `-` for the last byte dropped, `+`
+/// for a byte 00 after it, or the number of a bit that is flipped.
+fn changed(mut C: Vec<u8>, change: &str) -> Result<Vec<u8>, String> {
+    match change {
+        "=" => {}
+        "-" => drop(C.pop()),
+        "+" => C.push(0),
+        _ => {
+            let bit: usize = change.parse().map_err(|_| "no change")?;
+            ensure!(bit < 8 * C.len(), "no bit {bit}");
+            C[bit / 8] ^= 0x80 >> (bit % 8);
+        }
+    }
+    Ok(C)
+}
+
+/// For a line `set data-length message-length change`: the answer, and the
+/// message or what else is in the output.
+fn open_line(line: &str) -> Result<String, String> {
+    let (sealed, change) = line.rsplit_once(' ').ok_or("no change")?;
+    let (p, K, N, A, C) = sealed_by_rule(sealed)?;
+    let C = changed(C, change)?;
+    let t = p.tau / 8;
+    if C.len() > 65536 + t {
+        return Ok("5 unchanged".into());
+    }
+    if C.len() < t {
+        return Ok("6 unchanged".into());
+    }
+    Ok(match p.DEC(&K, &N, &A, &to_bits(&C)) {
+        Some(M) => format!("0 {}", shown(&to_bytes(&M))),
+        None => "8 zeros".into(),
+    })
 }
 
 // ---------------------------------------------------------------------------

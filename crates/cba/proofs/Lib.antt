@@ -1,14 +1,4 @@
-pub mod Examples
-pub mod OffsetLaws
 pub mod SetLaws
-pub mod StartLaws
-pub mod DataLaws
-pub mod FormLaws
-pub mod SealLaws
-pub mod PieceLaws
-pub mod TailLaws
-pub mod BeginLaws
-pub mod SealForms
-pub mod Reference
 pub mod RefusalLaws
 pub mod AnswerLaws
+pub mod Demands

@@ -1,6 +1,6 @@
 -- Laws of the parameter sets.
 -- Assumes nothing.
-use mathlib.Core.Path.{_≡_, refl, sym, ap, ap₂, _∙_}
+use mathlib.Core.Path.{_≡_, ap, ap₂}
 use mathlib.Core.Bool.{false, true, _&&_}
 use mathlib.Core.List.{List, [], _∷_}
 use Prim.Native.Nat.{ℕ, _%_, _<_, _≤_}
@@ -9,9 +9,8 @@ use lib.Dec.{T, leb}
 use lib.ListN.{getD}
 use borrow.Author.Tests.{lt-leb, le-leb}
 use Rattle.octets.proofs.Tests.{agree, same}
-use Rattle.cba.specs.declared.sets.Parameters.{Parameters}
 use Rattle.cba.specs.declared.sets.Set.the-variants.{Known, Unknown}
-use Rattle.cba.specs.Sets.{rows, isSet, column}
+use Rattle.mode.specs.Sets.{isSet, column}
 use Rattle.cba.specs.Lookup.{lookupOf}
 
 -- τ and b are bytes

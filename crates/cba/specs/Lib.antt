@@ -1,10 +1,3 @@
-pub mod Sets
-pub mod Offsets
-pub mod Data
-pub mod Forms
-pub mod Seal
-pub mod Open
-pub mod Refusals
-pub mod Charge
 pub mod Lookup
-pub mod Examples
+pub mod Refusals
+pub mod Demands

@@ -1,15 +1,15 @@
 -- What plain sealing and plain opening answer, and what they leave in the output: document 01's table, over all inputs.
 -- Assumes nothing.
-use mathlib.Core.Bool.{Bool, true, false, cond, not}
+use mathlib.Core.Path.{_≡_}
+use mathlib.Core.Bool.{Bool, cond, not}
 use mathlib.Core.List.{List, [], _∷_, _++_}
 use Prim.Native.Nat.{ℕ, _+_, _-_}
 use lib.Dec.{eqb, ltb}
 use lib.ListN.{length, drop, replicate}
 use Rattle.aes.specs.Cipher.{cipher, invCipher}
-use Rattle.cba.specs.Sets.{isSet, keyBytes, tagBits, tagBytes, capacity}
-use Rattle.cba.specs.Seal.{ENC}
-use Rattle.cba.specs.Open.{Opened, DEC}
-use Rattle.cba.specs.Open.Opened.{opened, refused}
+use Rattle.mode.specs.Sets.{isSet, keyBytes, tagBits, tagBytes, capacity}
+use Rattle.mode.specs.Seal.{ENC}
+use Rattle.mode.specs.Open.{Opened, isFalse, messageOf, DEC}
 
 -- a row of the table: a refusal's number, and whether it applies
 pub record Row : Type 0 where
@@ -31,11 +31,6 @@ opening set key N A C = DEC (cipher key) (invCipher key) (tagBits set) (capacity
 -- the set's tag length in bytes
 abbrev pub setTag : ℕ → ℕ
 setTag set = tagBytes (tagBits set)
-
--- no message seals to it, as DEC tells
-unfoldable pub isFalse : Opened → Bool
-isFalse (opened M) = false
-isFalse refused = true
 
 -- the checks that both calls begin with, in order; text is a message of at most most bytes, or a ciphertext
 abbrev pub common : ℕ → List ℕ → List ℕ → List ℕ → List ℕ → ℕ → List Row → List Row
@@ -83,11 +78,13 @@ openLeaves a n M out = cond (eqb a 0) (over M out) (cond (eqb a 8) (over (replic
 unfoldable pub sealOutput : ℕ → List ℕ → List ℕ → List ℕ → List ℕ → List ℕ → List ℕ
 sealOutput set key N A M out = sealLeaves (sealAnswer set key N A M out) (sealing set key N A M) out
 
--- the message of an opening
-unfoldable pub messageOf : Opened → List ℕ
-messageOf (opened M) = M
-messageOf refused = []
-
 unfoldable pub openOutput : ℕ → List ℕ → List ℕ → List ℕ → List ℕ → List ℕ → List ℕ
 openOutput set key N A C out =
     openLeaves (openAnswer set key N A C out) (length C - setTag set) (messageOf (opening set key N A C)) out
+
+-- what a call promises: its answer r, and out′, the output at exit, out being the output at entry
+abbrev pub SealCall : ℕ → List ℕ → List ℕ → List ℕ → List ℕ → List ℕ → ℕ → List ℕ → Type 0
+SealCall set key N A M out r out′ = (r ≡ sealAnswer set key N A M out) × (out′ ≡ sealOutput set key N A M out)
+
+abbrev pub OpenCall : ℕ → List ℕ → List ℕ → List ℕ → List ℕ → List ℕ → ℕ → List ℕ → Type 0
+OpenCall set key N A C out r out′ = (r ≡ openAnswer set key N A C out) × (out′ ≡ openOutput set key N A C out)

@@ -1,18 +1,10 @@
-// CBA v1-1 over AES: parameter sets, offsets, associated data, and sealing.
-mod associated;
-mod begin;
-mod forms;
-mod joined;
-mod offsets;
-mod pieces;
+// CBA v1-1 over AES for the ten parameter sets: plain sealing and plain opening, with their refusals,
+// offered to C.
+mod open;
 mod seal;
-mod separate;
 mod sets;
 
-pub use associated::data_hash;
-pub use offsets::pad;
-pub use offsets::start;
-pub use offsets::step;
+pub use open::cba_open;
 pub use seal::cba_seal;
 pub use sets::Parameters;
 pub use sets::Set;

@@ -1,9 +1,9 @@
 // Plain sealing, offered to C.
-use crate::begin::tag_bytes;
-use crate::forms::seal_message;
 use crate::sets::Parameters;
 use crate::sets::Set;
 use crate::sets::lookup;
+use sealing::seal_message;
+use sealing::tag_bytes;
 ghost use mathlib.Core.Path.{_≡_};
 ghost use mathlib.Core.Bool.{true};
 ghost use mathlib.Core.List.{_++_};
@@ -11,11 +11,11 @@ ghost use Prim.Native.Nat.{_+_, _≤_};
 ghost use lib.ListN.{length, drop};
 ghost use Rattle.aes.specs.Schedule.{isKey};
 ghost use Rattle.aes.specs.Cipher.{cipher};
-ghost use Rattle.cba.specs.Sets.{Fits, tagBytes};
+ghost use Rattle.mode.specs.Sets.{Fits, tagBytes};
 ghost use Rattle.cba.specs.declared.sets.Set.the-variants.{Known};
 ghost use Rattle.cba.specs.Lookup.{lookupOf};
-ghost use Rattle.cba.specs.Seal.{ENC};
-ghost use Rattle.cba.specs.Refusals.{sealAnswer, sealOutput};
+ghost use Rattle.mode.specs.Seal.{ENC};
+ghost use Rattle.cba.specs.Refusals.{SealCall};
 
 // The sealing of an input that no check refuses: the key schedule, once, and ENC.
 fn seal_accepted(
@@ -49,7 +49,7 @@ fn seal_known(
     out: &mut [u8],
 ) -> u32
     requires { ⌜ lookupOf set ≡ Known p ⌝ }
-    ensures { λ r. ⌜ (r ≡ sealAnswer set (now (key .entry)) (now (nonce .entry)) (now (header .entry)) (now (text .entry)) (now (out .entry))) × (now (out .exit) ≡ sealOutput set (now (key .entry)) (now (nonce .entry)) (now (header .entry)) (now (text .entry)) (now (out .entry))) ⌝ }
+    ensures { λ r. ⌜ SealCall set (now (key .entry)) (now (nonce .entry)) (now (header .entry)) (now (text .entry)) (now (out .entry)) r (now (out .exit)) ⌝ }
 {
     if key.len() != (p.key / 8) as usize {
         return 2;
@@ -81,7 +81,7 @@ pub extern "C" fn cba_seal(
     text: &[u8],
     out: &mut [u8],
 ) -> u32
-    ensures { λ r. ⌜ (r ≡ sealAnswer set (now (key .entry)) (now (nonce .entry)) (now (header .entry)) (now (text .entry)) (now (out .entry))) × (now (out .exit) ≡ sealOutput set (now (key .entry)) (now (nonce .entry)) (now (header .entry)) (now (text .entry)) (now (out .entry))) ⌝ }
+    ensures { λ r. ⌜ SealCall set (now (key .entry)) (now (nonce .entry)) (now (header .entry)) (now (text .entry)) (now (out .entry)) r (now (out .exit)) ⌝ }
 {
     match lookup(set) {
         Set::Known(p) => seal_known(set, p, key, nonce, header, text, out),

@@ -4,3 +4,4 @@ pub mod Xor
 pub mod Numbers
 pub mod Blocks
 pub mod Parts
+pub mod Count

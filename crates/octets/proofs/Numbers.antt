@@ -1,6 +1,6 @@
 -- Big-endian numbers, there and back, for strings of every length.
 -- Assumes nothing.
-use mathlib.Core.Path.{_≡_, refl, sym, ap, ap₂, _∙_, subst}
+use mathlib.Core.Path.{_≡_, refl, sym, ap, ap₂, _∙_}
 use mathlib.Core.List.{List, [], _∷_, _++_}
 use Prim.Native.Nat.{ℕ, zero, suc, _+_, _-_, _*_, _/_, _%_, _^_, _<_}
 use native.Mathlib.Nat.{mod-eq-of-lt, pow-suc, pow-succ', mul-assoc, mul-comm, add-mul, mul-add-div-right, zero-add, suc-add, le-of-suc-le-suc, not-suc-le-zero, div-div-eq-div-mul}

@@ -7,6 +7,7 @@ use mathlib.Core.Logic.{⊎-elim}
 use Prim.Native.Nat.{ℕ, zero, suc, _<_}
 use native.Mathlib.Nat.{le-of-suc-le-suc, not-suc-le-zero, eq-or-lt-of-le}
 use lib.Dec.{T, eqb, eqb→eq}
+use borrow.Author.Tests.{eq-eqb}
 use Rattle.octets.specs.Strings.{eqs}
 
 left : (a b : Bool) → T (a && b) → T a
@@ -22,6 +23,18 @@ eqs→eq [] [] h = refl
 eqs→eq [] (y ∷ t) h = absurd h
 eqs→eq (x ∷ s) [] h = absurd h
 eqs→eq (x ∷ s) (y ∷ t) h = ap₂ _∷_ (eqb→eq x y (left (eqb x y) (eqs s t) h)) (eqs→eq s t (right (eqb x y) (eqs s t) h))
+
+-- what the test of two strings says of the same string, and of two that differ
+pub eqs-same : (s : List ℕ) → eqs s s ≡ true
+eqs-same [] = refl
+eqs-same (x ∷ s) = rw (eq-eqb x x refl, eqs-same s)
+
+pub eqs-other : (s t : List ℕ) → (s ≡ t → ⊥) → eqs s t ≡ false
+eqs-other s t h = go (eqs s t) refl
+  where
+    go : (b : Bool) → eqs s t ≡ b → b ≡ false
+    go true e = absurd (h (eqs→eq s t (subst T (sym e) tt)))
+    go false e = refl
 
 -- f and g give the same lists at each number below n
 abbrev pub agree : (ℕ → List ℕ) → (ℕ → List ℕ) → ℕ → Bool

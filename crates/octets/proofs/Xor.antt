@@ -6,7 +6,7 @@ use Prim.Native.Nat.{ℕ, zero, suc, _+_, _*_, _/_, _%_, _<_, _≤_, min}
 use native.Mathlib.Nat.{add-assoc, add-comm, zero-min, min-zero, le-of-suc-le-suc, not-suc-le-zero}
 use native.Mathlib.Omega.{arith}
 use lib.Arith.{bin-ind}
-use lib.Bits.{bitXor, differ, xor-step, xor-comm, xor-self, xor-zero-l, xor-zero-r, xor-lt}
+use lib.Bits.{bitXor, differ, xor-step, xor-comm, xor-self, xor-zero-l, xor-lt}
 use lib.ListN.{length, take, drop, getD, replicate, length-take, length-drop}
 use lib.Seq.{take-all, getD-take, getD-drop}
 use Rattle.octets.specs.Strings.{Bytes, table}

@@ -1,6 +1,6 @@
 -- A string cut into blocks of k bytes; the mode's and the cipher's blocks have 16.
 -- Assumes nothing.
-use mathlib.Core.List.{List, [], _∷_, _++_}
+use mathlib.Core.List.{List, [], _++_}
 use Prim.Native.Nat.{ℕ, zero, suc, _*_}
 use lib.ListN.{take, drop}
 

@@ -2,3 +2,4 @@ pub mod Strings
 pub mod Xor
 pub mod Numbers
 pub mod Blocks
+pub mod Count

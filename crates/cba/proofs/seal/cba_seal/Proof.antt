@@ -1,7 +1,7 @@
 -- `cba::seal::cba_seal` meets its contract.
 -- Assumes nothing.
-use native.Mathlib.Omega.{arith}
-use Rattle.cba.proofs.AnswerLaws.{is-unknown, refuse-set, untouched}
+use mathlib.Core.Path.{refl}
+use Rattle.cba.proofs.AnswerLaws.{is-unknown, seal-refusals, seal-refused}
 use borrow.Author.Needs.{needs}
 use Rattle.cba.proofs.seal.cba_seal.Statement.{statement}
 use Rattle.cba.proofs.seal.cba_seal.Tie as tie
@@ -12,8 +12,7 @@ seal-known-requires c κs = cc
 returns-2 : tie.Need-returns-2
 returns-2 c =
     let a = c .before .before .before .before .before .before .before .before .args in
-    let e = refuse-set (a .set) (a .key .now) (a .nonce .now) (a .header .now) (a .text .now) (a .out .now) (is-unknown (a .set) cc) in
-    (e, untouched (a .set) (a .key .now) (a .nonce .now) (a .header .now) (a .text .now) (a .out .now) 1 e (λ z. omega (arith, z)))
+    seal-refused (a .set) (a .key .now) (a .nonce .now) (a .header .now) (a .text .now) (a .out .now) 0 (seal-refusals (a .set) (a .key .now) (a .nonce .now) (a .header .now) (a .text .now) (a .out .now) _ _ (refl, refl) .first .refuse-set (is-unknown (a .set) cc))
 
 pub cba-seal-spec : {M : Type 1} → statement M
 cba-seal-spec = tie.close (tie.spec (λ c κs. search needs) (λ c. search needs) seal-known-requires (λ c. search needs) (λ c. search needs) (λ c. search needs) returns-2)

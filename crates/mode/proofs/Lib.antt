@@ -1,0 +1,9 @@
+pub mod Examples
+pub mod OffsetLaws
+pub mod StartLaws
+pub mod DataLaws
+pub mod FormLaws
+pub mod SealLaws
+pub mod Reference
+pub mod Undoing
+pub mod RoundTrip

@@ -1,0 +1,9 @@
+pub mod Sets
+pub mod Offsets
+pub mod Data
+pub mod Forms
+pub mod Seal
+pub mod Open
+pub mod Charge
+pub mod Examples
+pub mod RoundTrip

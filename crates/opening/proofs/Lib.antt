@@ -1,0 +1,4 @@
+pub mod CompareLaws
+pub mod BlockLaws
+pub mod AttemptLaws
+pub mod OpenForms

@@ -1,0 +1,24 @@
+-- `opening::joined::joined_rest` meets its contract.
+-- Assumes nothing.
+use native.Mathlib.Omega.{arith}
+use lib.ListN.{length-take}
+use Rattle.aes.specs.Cipher.{cipher, invCipher}
+use Rattle.opening.proofs.AttemptLaws.{joined-rest-turn}
+use borrow.Author.Needs.{needs}
+use Rattle.opening.proofs.joined.joined_rest.Statement.{statement}
+use Rattle.opening.proofs.joined.joined_rest.Tie as tie
+
+mask-requires : tie.Need-mask-requires
+mask-requires c κs =
+    let h = c .before .before .before .before .before .before .before .before .before .pre .1 .1 in
+    (simp length-take (omega (arith, h .1)), simp length-take (omega (arith, h .0, h .2)))
+
+returns : tie.Need-returns
+returns c =
+    let a = c .before .before .before .before .before .before .before .before .before .before .before .before .before .args in
+    let h = c .before .before .before .before .before .before .before .before .before .before .before .before .before .pre .1 .1 in
+    joined-rest-turn (cipher (a .key .now)) (invCipher (a .key .now)) (a .offset) (a .m) (a .c .now) (a .tag .now) (a .out .now) (c .before .before .before .before .before .before .encrypt .result) _ _
+    (cc) (c .before .before .before .before .before .before .encrypt .ok .1 .0 .1) (h .1) (c .before .before .before .mask .ensures) (c .joined-tag .ensures)
+
+pub joined-rest-spec : {M : Type 1} → statement M
+joined-rest-spec = tie.close (tie.spec (λ c κs. search needs) (λ c κs. search needs) (λ c κs. search needs) (λ c. search needs) (λ c. simp length-take (omega arith)) mask-requires (λ c κs. search needs) (λ c. search needs) returns)

@@ -1,0 +1,8 @@
+// Opening: DEC of the paper, for a key that is set.
+mod blocks;
+mod compare;
+mod forms;
+mod joined;
+mod separate;
+
+pub use forms::open_text;

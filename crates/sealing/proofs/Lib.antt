@@ -1,0 +1,4 @@
+pub mod PieceLaws
+pub mod TailLaws
+pub mod BeginLaws
+pub mod SealForms

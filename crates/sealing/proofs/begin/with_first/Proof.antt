@@ -1,0 +1,12 @@
+-- `sealing::begin::with_first` meets its contract.
+-- Assumes nothing.
+use mathlib.Core.Path.{refl}
+use borrow.Author.Needs.{needs}
+use Rattle.sealing.proofs.begin.with_first.Statement.{statement}
+use Rattle.sealing.proofs.begin.with_first.Tie as tie
+
+returns : tie.Need-returns
+returns c = (refl, cc)
+
+pub with-first-spec : {M : Type 1} → statement M
+with-first-spec = tie.close (tie.spec (λ c κs. search needs) (λ c κs. search needs) returns)

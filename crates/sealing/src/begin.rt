@@ -1,0 +1,141 @@
+// What every form begins with: R, the first offset, T_A, and C_0.
+use crate::pieces::mask;
+use crate::pieces::nonce_block;
+use crate::pieces::right_aligned;
+use mode::data_hash;
+use mode::start;
+ghost use mathlib.Core.Path.{_≡_};
+ghost use mathlib.Core.Bool.{true};
+ghost use mathlib.Core.List.{_++_};
+ghost use Prim.Native.Nat.{_/_, _≤_};
+ghost use lib.ListN.{length, drop};
+ghost use Rattle.octets.specs.Xor.{xors};
+ghost use Rattle.aes.specs.Schedule.{isKey};
+ghost use Rattle.aes.specs.Cipher.{cipher};
+ghost use Rattle.aes.specs.Context.{contextOf};
+ghost use Rattle.mode.specs.Sets.{Fits, ell, tagBytes};
+ghost use Rattle.mode.specs.Offsets.{leading};
+ghost use Rattle.mode.specs.Data.{tagOfData};
+ghost use Rattle.mode.specs.Seal.{R, Δ₀, masked, T};
+
+// ℓ, in bits.
+fn first_bits(tag: u8, capacity: u8) -> u8
+    requires { ⌜ capacity ≤ 48 ⌝ }
+    ensures { λ r. ⌜ r ≡ ell tag capacity ⌝ }
+{
+    let room = 96 - 2 * capacity;
+    if room < tag {
+        return room;
+    }
+    tag
+}
+
+// ℓ and τ, in bytes.
+pub fn first_bytes(tag: u8, capacity: u8) -> usize
+    requires { ⌜ capacity ≤ 48 ⌝ }
+    ensures { λ r. ⌜ r ≡ ell tag capacity / 8 ⌝ }
+{
+    (first_bits(tag, capacity) / 8) as usize
+}
+
+pub fn tag_bytes(tag: u8) -> usize
+    ensures { λ r. ⌜ r ≡ tagBytes tag ⌝ }
+{
+    (tag / 8) as usize
+}
+
+// R, the first offset, and T_A with zeros before it.
+pub struct Begun {
+    pub r: [u8; 16],
+    pub offset: [u8; 16],
+    pub data: [u8; 16],
+}
+
+fn begin(
+    key: &[u8],
+    ctx: &aes::Context,
+    tag: u8,
+    capacity: u8,
+    nonce: &[u8],
+    header: &[u8],
+) -> Begun
+    requires { ⌜ isKey (now key) ≡ true ⌝ }
+    requires { ⌜ now ctx ≡ contextOf (now key) ⌝ }
+    requires { ⌜ Fits tag capacity ⌝ }
+    requires { ⌜ (length (now nonce) ≡ 12) × (length (now header) ≤ 4096) ⌝ }
+    ensures { λ b. ⌜ (b .r ≡ R (cipher (now (key .entry))) tag capacity (now (nonce .entry))) × (b .offset ≡ Δ₀ (cipher (now (key .entry))) tag capacity (now (nonce .entry))) × (b .data ≡ leading 16 (tagOfData (cipher (now (key .entry))) tag capacity (now (header .entry)))) × (length (tagOfData (cipher (now (key .entry))) tag capacity (now (header .entry))) ≡ tagBytes tag) ⌝ }
+{
+    let r = aes::encrypt(key, ctx, nonce_block(tag, capacity, nonce));
+    let offset = start(r, first_bits(tag, capacity));
+    let h = data_hash(key, ctx, tag, capacity, header);
+    let data = right_aligned(&h[..(tag / 8) as usize]);
+    Begun {
+        r: r,
+        offset: offset,
+        data: data,
+    }
+}
+
+// C_0 over the first bytes of out, after begin.
+pub fn cover(
+    key: &[u8],
+    ctx: &aes::Context,
+    tag: u8,
+    capacity: u8,
+    nonce: &[u8],
+    header: &[u8],
+    first: &[u8],
+    out: &mut [u8],
+) -> Begun
+    requires { ⌜ isKey (now key) ≡ true ⌝ }
+    requires { ⌜ now ctx ≡ contextOf (now key) ⌝ }
+    requires { ⌜ Fits tag capacity ⌝ }
+    requires { ⌜ (length (now nonce) ≡ 12) × (length (now header) ≤ 4096) × (length (now first) ≤ 16) × (length (now first) ≤ length (now out)) ⌝ }
+    ensures { λ b. ⌜ (b .offset ≡ Δ₀ (cipher (now (key .entry))) tag capacity (now (nonce .entry))) × (b .data ≡ leading 16 (tagOfData (cipher (now (key .entry))) tag capacity (now (header .entry)))) × (length (tagOfData (cipher (now (key .entry))) tag capacity (now (header .entry))) ≡ tagBytes tag) × (now (out .exit) ≡ masked (cipher (now (key .entry))) tag capacity (now (nonce .entry)) (now (first .entry)) ++ drop (length (now (first .entry))) (now (out .entry))) ⌝ }
+{
+    let b = begin(key, ctx, tag, capacity, nonce, header);
+    let r = b.r;
+    mask(r, 16 - first.len(), first, out);
+    b
+}
+
+// The first offset, and T with zeros before it.
+pub struct First {
+    pub offset: [u8; 16],
+    pub tag: [u8; 16],
+}
+
+// T = T_A ⊕ C_0, with zeros before each.
+pub fn with_first(b: Begun, c: &[u8]) -> First
+    requires { ⌜ length (now c) ≤ 16 ⌝ }
+    ensures { λ h. ⌜ (h .offset ≡ b .offset) × (h .tag ≡ xors (b .data) (leading 16 (now (c .entry)))) ⌝ }
+{
+    let data = b.data;
+    let t = octets::xor_block(data, right_aligned(c));
+    let offset = b.offset;
+    First {
+        offset: offset,
+        tag: t,
+    }
+}
+
+// C_0 over the first bytes of out, and what the joined and the separate form go on with.
+pub fn seal_first(
+    key: &[u8],
+    ctx: &aes::Context,
+    tag: u8,
+    capacity: u8,
+    nonce: &[u8],
+    header: &[u8],
+    first: &[u8],
+    out: &mut [u8],
+) -> First
+    requires { ⌜ isKey (now key) ≡ true ⌝ }
+    requires { ⌜ now ctx ≡ contextOf (now key) ⌝ }
+    requires { ⌜ Fits tag capacity ⌝ }
+    requires { ⌜ (length (now nonce) ≡ 12) × (length (now header) ≤ 4096) × (length (now first) ≤ tagBytes tag) × (length (now first) ≤ length (now out)) ⌝ }
+    ensures { λ h. ⌜ (h .offset ≡ Δ₀ (cipher (now (key .entry))) tag capacity (now (nonce .entry))) × (h .tag ≡ leading 16 (T (cipher (now (key .entry))) tag capacity (now (header .entry)) (masked (cipher (now (key .entry))) tag capacity (now (nonce .entry)) (now (first .entry))))) × (length (T (cipher (now (key .entry))) tag capacity (now (header .entry)) (masked (cipher (now (key .entry))) tag capacity (now (nonce .entry)) (now (first .entry)))) ≡ tagBytes tag) × (now (out .exit) ≡ masked (cipher (now (key .entry))) tag capacity (now (nonce .entry)) (now (first .entry)) ++ drop (length (now (first .entry))) (now (out .entry))) ⌝ }
+{
+    let b = cover(key, ctx, tag, capacity, nonce, header, first, out);
+    with_first(b, &out[..first.len()])
+}

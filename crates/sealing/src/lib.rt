@@ -1,0 +1,19 @@
+// Sealing: ENC of the paper, for a key that is set. What opening has in common with it is offered.
+mod begin;
+mod forms;
+mod joined;
+mod pieces;
+mod separate;
+
+pub use begin::Begun;
+pub use begin::First;
+pub use begin::cover;
+pub use begin::first_bytes;
+pub use begin::tag_bytes;
+pub use begin::with_first;
+pub use forms::seal_message;
+pub use forms::short_tag;
+pub use pieces::Running;
+pub use pieces::mask;
+pub use separate::last_block;
+pub use separate::tag_block;
