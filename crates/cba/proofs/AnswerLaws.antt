@@ -61,12 +61,12 @@ its-tag set p h = ap tagBytes (its-values set p h .1)
 
 -- ---- Booleans
 
-not-false : (x : Bool) → not x ≡ false → x ≡ true
+pub not-false : (x : Bool) → not x ≡ false → x ≡ true
 not-false true h = refl
 not-false false h = sym h
 
 -- where the answer is another, a row does not apply
-past-row : (n m : ℕ) (x : Bool) (rest : ℕ) → (n ≡ m → ⊥) → cond x n rest ≡ m → (x ≡ false) × (rest ≡ m)
+pub past-row : (n m : ℕ) (x : Bool) (rest : ℕ) → (n ≡ m → ⊥) → cond x n rest ≡ m → (x ≡ false) × (rest ≡ m)
 past-row n m true rest h e = absurd (h e)
 past-row n m false rest h e = (refl, e)
 
@@ -79,10 +79,10 @@ picked false = 1
 bounds : ℕ → List ℕ
 bounds n =
     (column 1 n - 127) ∷ (column 2 n - 48) ∷ (ell (column 1 n) (column 2 n) - 64) ∷ (ell (column 1 n) (column 2 n) % 32)
-    ∷ picked (eqb (keyBytes n) 16 || eqb (keyBytes n) 24 || eqb (keyBytes n) 32) ∷ []
+    ∷ picked (eqb (keyBytes n) 16 || eqb (keyBytes n) 24 || eqb (keyBytes n) 32) ∷ (keyBytes n - 32) ∷ []
 
 zeros : ℕ → List ℕ
-zeros n = 0 ∷ 0 ∷ 0 ∷ 0 ∷ 0 ∷ []
+zeros n = 0 ∷ 0 ∷ 0 ∷ 0 ∷ 0 ∷ 0 ∷ []
 
 test : T (agree bounds zeros 11)
 unfolding bounds zeros column picked
@@ -108,6 +108,10 @@ set-fits set h =
     let e₁ = ap (λ (l : List ℕ). getD l 1 0) e in
     let e₂ = ap (λ (l : List ℕ). getD l 2 0) e in
     (omega (arith, e₀), omega (arith, e₁), omega (arith, e₂), ap (λ (l : List ℕ). getD l 3 0) e)
+
+pub key-most : (set : ℕ) → isSet set ≡ true → keyBytes set ≤ 32
+unfolding bounds zeros
+key-most set h = let e = ap (λ (l : List ℕ). getD l 5 0) (held set h) in omega (arith, e)
 
 chosen : (x : Bool) → picked x ≡ 0 → x ≡ true
 unfolding picked

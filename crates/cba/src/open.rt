@@ -89,8 +89,8 @@ pub extern "C" fn cba_open(
 ) -> u32
     ensures { λ r. ⌜ OpenCall set (now (key .entry)) (now (nonce .entry)) (now (header .entry)) (now (text .entry)) (now (out .entry)) r (now (out .exit)) ⌝ }
 {
-    match lookup(set) {
-        Set::Known(p) => open_known(set, p, key, nonce, header, text, out),
-        Set::Unknown => 1,
-    }
+    let Set::Known(p) = lookup(set) else {
+        return 1;
+    };
+    open_known(set, p, key, nonce, header, text, out)
 }

@@ -1,0 +1,3 @@
+pub mod CheckLaws
+pub mod LedgerLaws
+pub mod Runs

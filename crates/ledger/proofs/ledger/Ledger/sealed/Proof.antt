@@ -1,0 +1,28 @@
+-- `ledger::ledger::Ledger::sealed` meets its contract.
+-- Assumes nothing.
+use mathlib.Core.Path.{sym, _∙_}
+use native.Mathlib.Omega.{arith}
+use Rattle.cba.proofs.AnswerLaws.{is-unknown}
+use Rattle.ledger.proofs.LedgerLaws.{ledger-refusals, ledger-refused}
+use borrow.Author.Needs.{needs}
+use Rattle.ledger.proofs.ledger.Ledger.sealed.Statement.{statement}
+use Rattle.ledger.proofs.ledger.Ledger.sealed.Tie as tie
+
+returns : tie.Need-returns
+returns c =
+    let a = c .before .before .before .before .before .before .before .args in
+    ledger-refused (a .self) (a .nonce .now) (a .header .now) (a .text .now) (a .out .now) 1 (sym (ledger-refusals (a .self) (a .nonce .now) (a .header .now) (a .text .now) _ .refuse-set (is-unknown (a .self .set) cc))) (λ z. omega (arith, z))
+
+checked-requires : tie.Need-checked-requires
+checked-requires c κs = cc
+
+returns-2 : tie.Need-returns-2
+returns-2 c =
+    let a = c .before .before .before .before .before .before .before .before .before .before .args in
+    ledger-refused (a .self) (a .nonce .now) (a .header .now) (a .text .now) (a .out .now) _ (c .before .checked .ensures) (c .if1 .taken)
+
+accepted-requires : tie.Need-accepted-requires
+accepted-requires c κs = (cc, sym (c .before .before .checked .ensures) ∙ c .before .if1 .left)
+
+pub sealed-spec : {M : Type 1} → statement M
+sealed-spec = tie.close (tie.spec (λ c κs. search needs) (λ c. search needs) (λ c. search needs) returns checked-requires returns-2 accepted-requires (λ c. search needs) (λ c. c .before .before .accepted .ensures))

@@ -1,0 +1,48 @@
+// What a ledger checks: nonces as numbers, and the charge against the capacity.
+ghost use mathlib.Core.Path.{_≡_};
+ghost use mathlib.Core.Bool.{not};
+ghost use Prim.Native.Nat.{_+_, _^_, _≤_};
+ghost use lib.Dec.{ltb};
+ghost use lib.ListN.{length};
+ghost use Rattle.octets.specs.Numbers.{number};
+ghost use Rattle.mode.specs.Charge.{charge};
+
+// Whether a nonce is above another, as big-endian numbers.
+pub fn above(nonce: &[u8], last: &[u8]) -> bool
+    requires { ⌜ length (now nonce) ≡ length (now last) ⌝ }
+    ensures { λ r. ⌜ r ≡ ltb (number (now (last .entry))) (number (now (nonce .entry))) ⌝ }
+{
+    let mut above = false;
+    let mut same = true;
+    let mut i = 0;
+    while i < nonce.len() {
+        let x = nonce[i];
+        let y = last[i];
+        if same {
+            above = x > y;
+            same = x == y;
+        }
+        i += 1;
+    }
+    above
+}
+
+// The blocks of a sealing.
+pub fn charge(header: usize, text: usize) -> u64
+    requires { ⌜ (header ≤ 4096) × (text ≤ 65536) ⌝ }
+    ensures { λ r. ⌜ r ≡ charge header text ⌝ }
+{
+    ((header + 15) / 16 + (text + 15) / 16) as u64
+}
+
+// Whether a charge goes into what is left of the capacity. The sum is not formed: it might not fit.
+pub fn fits(total: u64, charge: u64, capacity: u8) -> bool
+    requires { ⌜ capacity ≤ 48 ⌝ }
+    ensures { λ r. ⌜ r ≡ not (ltb (2 ^ capacity) (total + charge)) ⌝ }
+{
+    let most = 1u64 << capacity;
+    if total > most {
+        return false;
+    }
+    charge <= most - total
+}

@@ -1,0 +1,245 @@
+//! The script of the gate. The answers and the totals in it are document 01's, by hand; the model must agree.
+
+use super::model::{nonce, Call, Ledger, Record, MOST_NONCE, NO_LEDGER};
+
+pub struct Script {
+    pub records: Vec<Record>,
+    pub lines: Vec<String>,
+    ledger: Ledger,
+}
+
+/// A key of 32 bytes that are all different, and none 0.
+fn key() -> [u8; 32] {
+    std::array::from_fn(|i| 0x11 + i as u8)
+}
+
+impl Script {
+    fn add(&mut self, record: Record) {
+        self.lines.push(record.line(&mut self.ledger));
+        self.records.push(record);
+    }
+
+    fn says(&self, answer: u32, total: u64) {
+        let line = self.lines.last().expect("a line");
+        let found = line.split(' ').nth(1).expect("an answer");
+        let step = self.lines.len();
+        assert_eq!(found, answer.to_string(), "step {step}: another answer");
+        assert_eq!(self.ledger.total, total, "step {step}: another total");
+    }
+
+    /// A making with the key's first bytes, 00 after the 32.
+    fn make(&mut self, answer: u32, set: u32, length: usize) {
+        let key: Vec<u8> = key().into_iter().chain([0; 32]).take(length).collect();
+        self.add(Record::Make(set, key));
+        self.says(answer, 0);
+    }
+
+    fn put(&mut self, set: u32, total: u64, last: Option<u128>) {
+        let last_bytes = nonce(last.unwrap_or(MOST_NONCE)); // of no use where there is none
+        self.add(Record::Put(Ledger {
+            set,
+            key: key(),
+            total,
+            begun: last.is_some(),
+            last: last_bytes.try_into().expect("12 bytes"),
+        }));
+    }
+
+    /// A sealing that must give the answer and leave the total.
+    fn seal_bytes(&mut self, expected: (u32, u64), nonce: Vec<u8>, lengths: [usize; 3]) {
+        let [data, text, out] = lengths;
+        let seeds = [1, 2];
+        self.add(Record::Seal(Call {
+            nonce,
+            data,
+            text,
+            out,
+            seeds,
+        }));
+        self.says(expected.0, expected.1);
+    }
+
+    fn seal(&mut self, expected: (u32, u64), number: u128, lengths: [usize; 3]) {
+        self.seal_bytes(expected, nonce(number), lengths);
+    }
+}
+
+pub fn script() -> Script {
+    let mut s = Script {
+        records: vec![],
+        lines: vec![],
+        ledger: NO_LEDGER,
+    };
+    makings(&mut s);
+    every_set(&mut s);
+    refusals(&mut s);
+    nonces(&mut s);
+    whole_capacity(&mut s);
+    hand_made(&mut s);
+    unused_key_bytes(&mut s);
+    s
+}
+
+/// 1 and 2, 1 before 2, and what is left of a ledger after a refused making.
+fn makings(s: &mut Script) {
+    for set in [0, 11, 12, 255, 256, 257, 65537, u32::MAX] {
+        s.make(1, set, 16);
+    }
+    s.make(1, 11, 15);
+    for (set, right) in [(1, 16), (8, 16), (9, 24), (10, 32)] {
+        for length in [0, 15, 16, 17, 23, 24, 25, 31, 32, 33] {
+            s.make(if length == right { 0 } else { 2 }, set, length);
+        }
+    }
+    s.make(0, 1, 16);
+    s.seal((0, 3), 7, [1, 17, 21]);
+    s.make(2, 1, 24); // the ledger is gone
+    s.seal((1, 0), 8, [1, 17, 21]);
+}
+
+/// A fresh ledger takes nonce 0. The charge of 1 data byte and 17 message bytes is 3.
+fn every_set(s: &mut Script) {
+    let keys_and_tags = [
+        (16, 4),
+        (16, 4),
+        (16, 8),
+        (16, 8),
+        (16, 8),
+        (16, 12),
+        (16, 12),
+        (16, 12),
+        (24, 8),
+        (32, 12),
+    ];
+    for (set, (key, t)) in (1..).zip(keys_and_tags) {
+        s.make(0, set, key);
+        s.seal((7, 0), 0, [1, 17, 17 + t - 1]);
+        s.seal((0, 3), 0, [1, 17, 17 + t]);
+        s.seal((9, 3), 0, [1, 17, 17 + t]);
+        s.seal((0, 6), 1, [1, 17, 17 + t + 3]);
+    }
+}
+
+/// Each refusal alone, each before the next, and that it leaves the ledger, its nonce too. Set 3 has t = 8.
+fn refusals(s: &mut Script) {
+    s.make(0, 3, 16);
+    s.seal((0, 3), 500, [16, 32, 40]);
+    let good = [16, 32, 40];
+    for length in [0, 11, 13, 24] {
+        s.seal_bytes((3, 3), vec![0xff; length], good);
+    }
+    s.seal((4, 3), 600, [4097, 32, 40]);
+    s.seal((5, 3), 601, [16, 65537, 65545]);
+    s.seal((7, 3), 602, [16, 32, 39]);
+    s.seal((7, 3), 603, [16, 32, 0]);
+    s.seal((9, 3), 500, good);
+    s.seal((9, 3), 499, good);
+    s.seal_bytes((3, 3), vec![0; 11], [4097, 65537, 0]);
+    s.seal((4, 3), 500, [4097, 65537, 0]);
+    s.seal((5, 3), 500, [16, 65537, 0]);
+    s.seal((7, 3), 500, [16, 32, 39]);
+    s.seal((0, 259), 501, [4096, 0, 8]); // 256 blocks; under all that were refused
+    s.put(3, 65536, Some(500));
+    s.seal((7, 65536), 501, [0, 1, 8]);
+    s.seal((9, 65536), 500, [0, 1, 9]);
+    s.seal((10, 65536), 501, [0, 1, 9]);
+    s.seal((10, 65536), MOST_NONCE, [1, 0, 8]);
+    s.seal((0, 65536), 501, [0, 0, 8]);
+}
+
+/// Nonces are 96-bit big-endian numbers: the first byte counts most, the last least.
+fn nonces(s: &mut Script) {
+    let none = [0, 0, 4];
+    s.make(0, 2, 16);
+    s.seal((0, 0), 1 << 88, none);
+    s.seal((9, 0), (1 << 88) - 1, none); // 00ff..ff
+    s.seal((9, 0), 0xff, none);
+    s.seal((0, 0), (1 << 88) + 1, none);
+    s.seal((9, 0), 1 << 88, none);
+    s.seal((0, 0), (1 << 88) + 0x100, none); // the last byte falls, the one before rises
+    s.seal((9, 0), (1 << 88) + 0xff, none);
+    s.seal((0, 0), (1 << 88) + (1 << 64), none); // only the bytes before the last eight rise
+    s.seal((9, 0), (1 << 88) + (1 << 64) - 1, none);
+    s.seal((0, 0), 2 << 88, none); // the first byte rises, the others fall
+    s.seal((0, 0), 0x80 << 88, none); // no sign
+    s.seal((9, 0), 0x7f << 88, none);
+    s.seal((0, 0), MOST_NONCE - 1, none);
+    s.seal((0, 0), MOST_NONCE, none);
+    s.seal((9, 0), MOST_NONCE, none); // no nonce is above it
+    s.seal((9, 0), 0, none);
+}
+
+/// On set 1, 16 messages of 65,536 bytes make 65,536 blocks, the capacity.
+fn whole_capacity(s: &mut Script) {
+    s.make(0, 1, 16);
+    for i in 1..=15 {
+        s.seal((0, 4096 * i), i as u128, [0, 65536, 65540]);
+    }
+    s.seal((10, 61440), 50, [1, 65536, 65540]);
+    s.seal((0, 65536), 16, [0, 65536, 65540]);
+    s.seal((0, 65536), 17, [0, 0, 4]); // a charge of 0
+    s.seal((10, 65536), 60, [1, 0, 4]);
+    s.seal((10, 65536), 61, [0, 1, 5]);
+    s.seal((10, 65536), 62, [4096, 65536, 65540]);
+    s.seal((9, 65536), 17, [0, 1, 5]);
+    s.seal((0, 65536), 18, [0, 0, 4]);
+}
+
+/// Values that no list of sealings leads to.
+fn hand_made(s: &mut Script) {
+    let no_sets = [0, 11, 256, 257, 65537, 1 << 31 | 1, u32::MAX];
+    for (set, total) in no_sets.into_iter().zip([0, 1 << 63, 5, 5, 5, 5, u64::MAX]) {
+        let last = (set != 0).then_some(9);
+        s.put(set, total, last);
+        s.seal((1, total), 10, [1, 17, 40]);
+        s.seal((1, total), 9, [1, 17, 0]);
+        s.seal_bytes((1, total), vec![], [4097, 65537, 0]);
+    }
+    for (set, b) in [(1, 16), (2, 32), (5, 48)] {
+        let (most, out) = (1 << b, 40);
+        s.put(set, u64::MAX, Some(1)); // one block more would be 2^64
+        s.seal((10, u64::MAX), 2, [0, 0, out]);
+        s.seal((10, u64::MAX), 2, [1, 0, out]);
+        for over in [1, 1 << 32, 1 << 63] {
+            s.put(set, most + over, Some(1));
+            s.seal((10, most + over), 2, [0, 0, out]);
+        }
+        s.put(set, most, Some(1));
+        s.seal((0, most), 2, [0, 0, out]);
+        s.seal((10, most), 3, [0, 1, out]);
+        s.put(set, most - 1, Some(1));
+        s.seal((10, most - 1), 2, [1, 1, out]);
+        s.seal((10, most - 1), 2, [0, 17, out]);
+        s.seal((0, most), 2, [0, 16, out]);
+        s.seal((10, most), 3, [1, 0, out]);
+        s.put(set, 5, None); // a total with no nonce
+        s.seal((0, 8), 0, [1, 17, out]);
+        s.seal((9, 8), 0, [1, 17, out]);
+        s.put(set, 0, Some(1)); // a nonce with no total
+        s.seal((9, 0), 1, [1, 17, out]);
+        s.seal((0, 3), 2, [1, 17, out]);
+    }
+}
+
+/// The hand-made key has no zeros after it: the sealing is the made ledger's, whose key has.
+fn unused_key_bytes(s: &mut Script) {
+    for (set, length) in [(1, 16), (9, 24), (10, 32)] {
+        s.make(0, set, length);
+        s.seal((0, 3), 3, [1, 17, 40]);
+        s.put(set, 0, None);
+        s.seal((0, 3), 3, [1, 17, 40]);
+        let outs: Vec<&str> = s
+            .lines
+            .iter()
+            .rev()
+            .step_by(2)
+            .take(2)
+            .map(|line| last_word(line))
+            .collect();
+        assert_eq!(outs[0], outs[1], "another sealing");
+    }
+}
+
+fn last_word(line: &str) -> &str {
+    line.rsplit(' ').next().expect("a word")
+}
