@@ -1,0 +1,103 @@
+-- The hub's lines: the grammar, and what a line says.
+-- Assumes nothing.
+use mathlib.Core.Path.{_≡_}
+use mathlib.Core.Bool.{Bool, cond, _&&_, _||_}
+use mathlib.Core.List.{List, [], _∷_, _++_}
+use Prim.Native.Nat.{ℕ, suc, _+_, _-_, _<_, _≤_}
+use lib.Dec.{eqb, leb}
+use lib.ListN.{length, getD, take, drop}
+use Rattle.octets.specs.Strings.{Bytes, eqs}
+use Rattle.hub_text.specs.Numerals.{decimal, decimalValue, isSetNumber, shown, isValue, valueOf}
+
+-- `seal`, `open`
+abbrev pub sealWord : List ℕ
+sealWord = 115 ∷ 101 ∷ 97 ∷ 108 ∷ []
+
+abbrev pub openWord : List ℕ
+openWord = 111 ∷ 112 ∷ 101 ∷ 110 ∷ []
+
+-- what a well-formed line asks for
+pub record Request : Type 0 where
+  pub seals : Bool
+  pub set : ℕ
+  pub key : List ℕ
+  pub nonce : List ℕ
+  pub header : List ℕ
+  pub text : List ℕ
+
+pub data Parsed : Type 0 where
+  asked : Request → Parsed
+  malformed : Parsed
+
+-- ---- the grammar, by what a request is written as
+
+-- words, each after a space
+unfoldable pub spaced : List (List ℕ) → List ℕ
+spaced [] = []
+spaced (w ∷ ws) = 32 ∷ (w ++ spaced ws)
+
+unfoldable pub written : Request → List ℕ
+written r =
+    cond (r .seals) sealWord openWord
+    ++ spaced (decimal (r .set) ∷ shown (r .key) ∷ shown (r .nonce) ∷ shown (r .header) ∷ shown (r .text) ∷ [])
+
+-- a request that a line can have
+pub record Writable (r : Request) : Type 0 where
+  pub set-most : r .set ≤ 999
+  pub key-bytes : Bytes (r .key)
+  pub nonce-bytes : Bytes (r .nonce)
+  pub header-bytes : Bytes (r .header)
+  pub text-bytes : Bytes (r .text)
+  pub line-most : length (written r) ≤ 4096
+
+-- ---- reading
+
+-- a first character put before the first word
+unfoldable pub joinFirst : ℕ → List (List ℕ) → List (List ℕ)
+joinFirst c [] = (c ∷ []) ∷ []
+joinFirst c (w ∷ ws) = (c ∷ w) ∷ ws
+
+-- the words between the spaces, some of them empty
+unfoldable pub wordsOf : List ℕ → List (List ℕ)
+wordsOf [] = [] ∷ []
+wordsOf (c ∷ s) = cond (eqb c 32) ([] ∷ wordsOf s) (joinFirst c (wordsOf s))
+
+-- the same by places: how many characters stand before the first space, or in all
+unfoldable pub wordLength : List ℕ → ℕ
+wordLength [] = 0
+wordLength (c ∷ s) = cond (eqb c 32) 0 (suc (wordLength s))
+
+-- where the word ends that begins at a place
+abbrev pub wordEnd : List ℕ → ℕ → ℕ
+wordEnd s i = i + wordLength (drop i s)
+
+-- the characters from one place to another
+abbrev pub part : List ℕ → ℕ → ℕ → List ℕ
+part s i j = take (j - i) (drop i s)
+
+unfoldable pub fromSix : List ℕ → List ℕ → List ℕ → List ℕ → List ℕ → List ℕ → Parsed
+fromSix act set key nonce header text =
+    cond ((eqs act sealWord || eqs act openWord) && isSetNumber set && isValue key && isValue nonce && isValue header && isValue text)
+    (asked
+    (record {
+      seals = eqs act sealWord;
+      set = decimalValue 0 set;
+      key = valueOf key;
+      nonce = valueOf nonce;
+      header = valueOf header;
+      text = valueOf text;
+    }))
+    malformed
+
+-- six words
+unfoldable pub fromWords : List (List ℕ) → Parsed
+fromWords ws = cond (eqb (length ws) 6) (fromSix (getD ws 0 []) (getD ws 1 []) (getD ws 2 []) (getD ws 3 []) (getD ws 4 []) (getD ws 5 [])) malformed
+
+-- a line without its LF
+unfoldable pub parse : List ℕ → Parsed
+parse s = cond (leb (length s) 4096) (fromWords (wordsOf s)) malformed
+
+-- reading is the inverse of writing: a line is read as a request exactly where it is what the request is written as
+pub record Grammar : Type 0 where
+  pub reads : (r : Request) → Writable r → parse (written r) ≡ asked r
+  pub only : (s : List ℕ) (r : Request) → parse s ≡ asked r → Writable r × (written r ≡ s)

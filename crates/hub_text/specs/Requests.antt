@@ -1,0 +1,46 @@
+-- What the code reads off a line, and what it answers: the paper's values for its structs.
+-- Assumes nothing.
+use mathlib.Core.Path.{_≡_}
+use mathlib.Core.Bool.{Bool, true, false, _&&_, _||_}
+use mathlib.Core.List.{List, _++_}
+use Prim.Native.Nat.{ℕ, _+_, _≤_}
+use lib.ListN.{length, take, drop}
+use Rattle.octets.specs.Strings.{eqs}
+use Rattle.hub_text.specs.declared.cut.Cut.{Cut}
+use Rattle.hub_text.specs.declared.request.Asked.{Asked}
+use Rattle.hub_text.specs.Numerals.{isSetNumber, isValue}
+use Rattle.hub_text.specs.Lines.{Request, sealWord, openWord, parse, part}
+use Rattle.hub_text.specs.Lines.Parsed.{asked, malformed}
+
+-- the test of six words
+abbrev pub wellFormed : List ℕ → List ℕ → List ℕ → List ℕ → List ℕ → List ℕ → Bool
+wellFormed act set key nonce header text =
+    (eqs act sealWord || eqs act openWord) && isSetNumber set && isValue key && isValue nonce && isValue header && isValue text
+
+-- the same of a line that is cut at the places of w
+abbrev pub wellFormedAt : List ℕ → Cut → Bool
+wellFormedAt s w =
+    wellFormed (part s 0 (w .a)) (part s (w .a + 1) (w .b)) (part s (w .b + 1) (w .c)) (part s (w .c + 1) (w .d)) (part s (w .d + 1) (w .e)) (part s (w .e + 1) (length s))
+
+-- b is a with the string v over its bytes from i on, which ends at j
+pub record Next (v : List ℕ) (i j : ℕ) (a b : List ℕ) : Type 0 where
+  pub ends : j ≡ i + length v
+  pub over : b ≡ take i a ++ (v ++ drop j a)
+
+-- the request of an Asked, whose strings stand one after the other in b, each up to its end
+abbrev pub requestOf : Asked → List ℕ → Request
+requestOf r b =
+    record {
+      seals = r .seals;
+      set = r .set;
+      key = part b 0 (r .key);
+      nonce = part b (r .key) (r .nonce);
+      header = part b (r .nonce) (r .header);
+      text = part b (r .header) (r .text);
+    }
+
+-- r is what the line says, b being the bytes that were read off it
+pub record Read (s : List ℕ) (r : Asked) (b : List ℕ) : Type 0 where
+  pub malformed-is : r .good ≡ false → parse s ≡ malformed
+  pub asked-is : r .good ≡ true → parse s ≡ asked (requestOf r b)
+  pub ordered : r .good ≡ true → (r .key ≤ r .nonce) × (r .nonce ≤ r .header) × (r .header ≤ r .text) × (r .text ≤ length b)

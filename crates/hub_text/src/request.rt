@@ -1,0 +1,163 @@
+// What a line asks for.
+use crate::cut::Cut;
+use crate::cut::spaces;
+use crate::decimal::is_set_number;
+use crate::decimal::set_number;
+use crate::hex::is_value;
+use crate::hex::read_value;
+ghost use mathlib.Core.Path.{_≡_};
+ghost use mathlib.Core.Bool.{true, false, _||_};
+ghost use Prim.Native.Nat.{_+_, _/_, _≤_};
+ghost use lib.ListN.{length};
+ghost use Rattle.octets.specs.Strings.{eqs};
+ghost use Rattle.hub_text.specs.Numerals.{isValue, valueOf};
+ghost use Rattle.hub_text.specs.Lines.{sealWord, openWord, part};
+ghost use Rattle.hub_text.specs.Cuts.{Cuts};
+ghost use Rattle.hub_text.specs.Requests.{wellFormedAt, Next, Read};
+
+// A request's act and set, and where its strings end in the bytes that were read; good is false for
+// a malformed line.
+pub struct Asked {
+    pub good: bool,
+    pub seals: bool,
+    pub set: u32,
+    pub key: usize,
+    pub nonce: usize,
+    pub header: usize,
+    pub text: usize,
+}
+
+// Whether a word is another.
+fn is_word(w: &[u8], word: &[u8]) -> bool
+    ensures { λ r. ⌜ r ≡ eqs (now (w .entry)) (now (word .entry)) ⌝ }
+{
+    if w.len() != word.len() {
+        return false;
+    }
+    let mut i = 0;
+    while i < w.len() {
+        if w[i] != word[i] {
+            return false;
+        }
+        i += 1;
+    }
+    true
+}
+
+fn is_seal(w: &[u8]) -> bool
+    ensures { λ r. ⌜ r ≡ eqs (now (w .entry)) sealWord ⌝ }
+{
+    let word = [115, 101, 97, 108];
+    is_word(w, &word)
+}
+
+fn is_open(w: &[u8]) -> bool
+    ensures { λ r. ⌜ r ≡ eqs (now (w .entry)) openWord ⌝ }
+{
+    let word = [111, 112, 101, 110];
+    is_word(w, &word)
+}
+
+fn is_act(w: &[u8]) -> bool
+    ensures { λ r. ⌜ r ≡ (eqs (now (w .entry)) sealWord || eqs (now (w .entry)) openWord) ⌝ }
+{
+    if is_seal(w) {
+        return true;
+    }
+    is_open(w)
+}
+
+// The characters of a line from one place to another.
+fn word<'a>(line: &'a [u8], from: usize, to: usize) -> &'a [u8]
+    requires { ⌜ (from ≤ to) × (to ≤ length (now line)) ⌝ }
+    ensures { λ r. ⌜ now r ≡ part (now (line .entry)) from to ⌝ }
+{
+    &line[from..to]
+}
+
+// Whether six words are a request.
+fn is_request(line: &[u8], w: Cut) -> bool
+    requires { ⌜ w .good ≡ true ⌝ }
+    requires { ⌜ Cuts (now line) w ⌝ }
+    ensures { λ r. ⌜ r ≡ wellFormedAt (now (line .entry)) w ⌝ }
+{
+    if !is_act(word(line, 0, w.a)) {
+        return false;
+    }
+    if !is_set_number(word(line, w.a + 1, w.b)) {
+        return false;
+    }
+    if !is_value(word(line, w.b + 1, w.c)) {
+        return false;
+    }
+    if !is_value(word(line, w.c + 1, w.d)) {
+        return false;
+    }
+    if !is_value(word(line, w.d + 1, w.e)) {
+        return false;
+    }
+    is_value(word(line, w.e + 1, line.len()))
+}
+
+// What a value stands for, over the bytes from a place on, and where it ends.
+fn read_next(w: &[u8], bytes: &mut [u8], at: usize) -> usize
+    requires { ⌜ isValue (now w) ≡ true ⌝ }
+    requires { ⌜ at + length (now w) / 2 ≤ length (now bytes) ⌝ }
+    ensures { λ r. ⌜ Next (valueOf (now (w .entry))) at r (now (bytes .entry)) (now (bytes .exit)) ⌝ }
+{
+    at + read_value(w, &mut bytes[at..])
+}
+
+// The request of six words that are one: its strings over the first bytes of bytes.
+fn read_request(line: &[u8], w: Cut, bytes: &mut [u8]) -> Asked
+    requires { ⌜ w .good ≡ true ⌝ }
+    requires { ⌜ Cuts (now line) w ⌝ }
+    requires { ⌜ (length (now line) ≤ 4096) × (2048 ≤ length (now bytes)) ⌝ }
+    requires { ⌜ wellFormedAt (now line) w ≡ true ⌝ }
+    ensures { λ r. ⌜ Read (now (line .entry)) r (now (bytes .exit)) ⌝ }
+{
+    let seals = is_seal(word(line, 0, w.a));
+    let set = set_number(word(line, w.a + 1, w.b));
+    let key = read_next(word(line, w.b + 1, w.c), bytes, 0);
+    let nonce = read_next(word(line, w.c + 1, w.d), bytes, key);
+    let header = read_next(word(line, w.d + 1, w.e), bytes, nonce);
+    let text = read_next(word(line, w.e + 1, line.len()), bytes, header);
+    Asked {
+        good: true,
+        seals: seals,
+        set: set,
+        key: key,
+        nonce: nonce,
+        header: header,
+        text: text,
+    }
+}
+
+fn malformed() -> Asked
+    ensures { λ r. ⌜ r .good ≡ false ⌝ }
+{
+    Asked {
+        good: false,
+        seals: false,
+        set: 0,
+        key: 0,
+        nonce: 0,
+        header: 0,
+        text: 0,
+    }
+}
+
+// What a line of at most 4,096 bytes says.
+pub fn read_line(line: &[u8], bytes: &mut [u8]) -> Asked
+    requires { ⌜ (length (now line) ≤ 4096) × (2048 ≤ length (now bytes)) ⌝ }
+    ensures { λ r. ⌜ Read (now (line .entry)) r (now (bytes .exit)) ⌝ }
+{
+    let w = spaces(line);
+    if !w.good {
+        return malformed();
+    }
+    if !is_request(line, w) {
+        return malformed();
+    }
+    read_request(line, w, bytes)
+}
