@@ -8,12 +8,12 @@ use Prim.Native.Nat.{ℕ, zero, suc, _+_, _-_, _*_, _/_, _%_, _^_, _<_, _≤_}
 use native.Mathlib.Nat.{le-of-suc-le-suc, not-suc-le-zero, pow-suc}
 use native.Mathlib.Numerals.{add-one}
 use native.Mathlib.Omega.{arith}
-use borrow.Author.Tests.{eq-eqb, ne-eqb, lt-ltb, le-ltb, le-leb, lt-leb, ltb-true, leb-true}
+use borrow.Author.Tests.{eq-eqb, ne-eqb, lt-ltb, le-ltb, le-leb, lt-leb, ltb-true}
 use lib.Dec.{eqb, ltb, leb}
 use lib.ListN.{length, take, drop, getD, length-drop, drop-of-length-le}
 use lib.Seq.{drop-cons, take-length}
 use Rattle.mode.proofs.FormLaws.{le-or-lt}
-use Rattle.hub_text.proofs.NumeralLaws.{both}
+use Rattle.hub_text.proofs.NumeralLaws.{both, digit}
 use Rattle.hub_text.specs.Numerals.{decimalOf, decimal, isDigit, allDigits, isSetNumber, decimalValue}
 
 -- ---- digits
@@ -25,10 +25,6 @@ digit-low c h = rw (lt-leb 48 c h)
 pub digit-above : (c : ℕ) → 48 ≤ c → isDigit c ≡ leb c 57
 unfolding isDigit
 digit-above c h = rw (le-leb 48 c h)
-
-pub digit-range : (c : ℕ) → isDigit c ≡ true → (48 ≤ c) × (c ≤ 57)
-unfolding isDigit
-digit-range c h = let b = both (leb 48 c) (leb c 57) h in (leb-true 48 c (b .0), leb-true c 57 (b .1))
 
 digit-at : (w : List ℕ) (i : ℕ) → allDigits w ≡ true → i < length w → isDigit (getD w i 0) ≡ true
 unfolding allDigits
@@ -102,7 +98,7 @@ set-is (c ∷ s) h =
 
 -- a byte of it
 pub set-digit : (w : List ℕ) (i : ℕ) → isSetNumber w ≡ true → i < length w → (48 ≤ getD w i 0) × (getD w i 0 ≤ 57)
-set-digit w i h l = digit-range (getD w i 0) (digit-at w i (set-is w h .0) l)
+set-digit w i h l = let d = digit (getD w i 0) (digit-at w i (set-is w h .0) l) in (d .low, d .high)
 
 -- After i turns: n is the number of the first i digits.
 pub record Read (w : List ℕ) (n i : ℕ) : Type 0 where

@@ -1,22 +1,22 @@
 -- Hex digits and pairs of them: what the tests say, bytes as pairs, and pairs as bytes.
 -- Assumes nothing.
 use mathlib.Core.Path.{_≡_, refl, sym, ap, ap₂, _∙_}
-use mathlib.Core.Bool.{Bool, true, false, cond, _&&_, _||_, and-true, and-false, or-false, false≢true}
+use mathlib.Core.Bool.{Bool, true, false, cond, _&&_, and-true, and-false, or-false, false≢true}
 use mathlib.Core.List.{List, [], _∷_, _++_, append-assoc}
-use mathlib.Core.Logic.{_⊎_, inl, inr, ⊎-elim}
+use mathlib.Core.Logic.{_⊎_, ⊎-elim}
 use Prim.Native.Nat.{ℕ, zero, suc, _+_, _-_, _*_, _/_, _%_, _<_, _≤_}
 use native.Mathlib.Nat.{not-suc-le-zero}
 use native.Mathlib.Numerals.{add-one}
 use native.Mathlib.Omega.{arith}
-use borrow.Author.Tests.{eq-eqb, ne-eqb, lt-ltb, le-ltb, le-leb, lt-leb, leb-true}
+use borrow.Author.Tests.{eq-eqb, ne-eqb, lt-ltb, le-ltb, le-leb, lt-leb}
 use lib.Dec.{eqb, leb}
 use lib.ListN.{length, take, drop, getD, set, length-append, length-set, length-drop}
 use lib.Seq.{take-all, take-suc, length-take-le, drop-cons, append-snoc, set-at}
 use Rattle.octets.specs.Strings.{table}
 use Rattle.octets.proofs.Strings.{table-is}
-use Rattle.hub_text.specs.Numerals.{isDigit, hexDigit, hex, shown, isHexDigit, hexValue, areHexPairs, unhex, isValue, valueOf}
-use Rattle.hub_text.proofs.DecimalLaws.{digit-low, digit-above, digit-range}
-use Rattle.hub_text.proofs.NumeralLaws.{both}
+use Rattle.hub_text.specs.Numerals.{hexDigit, hex, shown, isHexDigit, hexValue, areHexPairs, unhex, isValue, valueOf}
+use Rattle.hub_text.proofs.DecimalLaws.{digit-low, digit-above}
+use Rattle.hub_text.proofs.NumeralLaws.{both, Digit, hex-range}
 
 -- ---- digits
 
@@ -44,29 +44,17 @@ pub hex-letter : (c : ℕ) → 97 ≤ c → leb c 102 ≡ isHexDigit c
 unfolding isHexDigit
 hex-letter c l = rw (digit-above c (omega arith), lt-leb c 57 (omega arith), le-leb 97 c l)
 
-either : (a b : Bool) → (a || b) ≡ true → (a ≡ true) ⊎ (b ≡ true)
-either true b h = inl refl
-either false b h = inr h
-
-hex-range : (c : ℕ) → isHexDigit c ≡ true → ((48 ≤ c) × (c ≤ 57)) ⊎ ((97 ≤ c) × (c ≤ 102))
-unfolding isHexDigit
-hex-range c h =
-    ⊎-elim
-    (λ (d : isDigit c ≡ true). inl (digit-range c d))
-    (λ (l : leb 97 c && leb c 102 ≡ true). let b = both (leb 97 c) (leb c 102) l in inr (leb-true 97 c (b .0), leb-true c 102 (b .1)))
-    (either (isDigit c) (leb 97 c && leb c 102) h)
-
 -- what a digit stands for, and that the subtraction does not wrap
 pub value-ten : (c : ℕ) → isHexDigit c ≡ true → c ≤ 57 → (48 ≤ c) × ((c - 48 ≡ hexValue c) × (c - 48 < 16))
 unfolding hexValue
 value-ten c e h =
-    let l : 48 ≤ c = ⊎-elim (λ (d : (48 ≤ c) × (c ≤ 57)). d .0) (λ (d : (97 ≤ c) × (c ≤ 102)). omega arith) (hex-range c e) in
+    let l : 48 ≤ c = ⊎-elim (λ (d : Digit c). d .low) (λ (d : (97 ≤ c) × (c ≤ 102)). omega arith) (hex-range c e) in
     (l, (rw (le-leb c 57 h), omega arith))
 
 pub value-letter : (c : ℕ) → isHexDigit c ≡ true → 57 < c → (87 ≤ c) × ((c - 87 ≡ hexValue c) × (c - 87 < 16))
 unfolding hexValue
 value-letter c e h =
-    let l : (97 ≤ c) × (c ≤ 102) = ⊎-elim (λ (d : (48 ≤ c) × (c ≤ 57)). absurd (omega arith)) (λ (d : (97 ≤ c) × (c ≤ 102)). d) (hex-range c e) in
+    let l : (97 ≤ c) × (c ≤ 102) = ⊎-elim (λ (d : Digit c). absurd (omega arith)) (λ (d : (97 ≤ c) × (c ≤ 102)). d) (hex-range c e) in
     (omega arith, (rw (lt-leb c 57 h), omega arith))
 
 -- ---- bytes as pairs

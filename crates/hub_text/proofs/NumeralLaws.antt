@@ -3,6 +3,7 @@
 use mathlib.Core.Path.{_≡_, refl, sym, ap, ap₂, subst, _∙_}
 use mathlib.Core.Bool.{Bool, true, false, cond, not, _&&_, _||_, and-eq-true-iff, false≢true}
 use mathlib.Core.List.{List, [], _∷_, _++_}
+use mathlib.Core.Logic.{_⊎_, inl, inr, ⊎-elim}
 use Prim.Native.Nat.{ℕ, suc, _+_, _-_, _*_, _/_, _%_, _<_, _≤_}
 use native.Mathlib.Omega.{arith}
 use lib.Dec.{T, eqb, ltb, leb}
@@ -40,7 +41,7 @@ pub record Digit (c : ℕ) : Type 0 where
   pub low : 48 ≤ c
   pub high : c ≤ 57
 
-digit : (c : ℕ) → isDigit c ≡ true → Digit c
+pub digit : (c : ℕ) → isDigit c ≡ true → Digit c
 unfolding isDigit
 digit c e = let p = both (leb 48 c) (leb c 57) e in record { low = leb-true 48 c (p .0); high = leb-true c 57 (p .1) }
 
@@ -123,27 +124,32 @@ pub record HexDigit (c : ℕ) : Type 0 where
   pub small : hexValue c < 16
   pub back : hexDigit (hexValue c) ≡ c
 
-pub hex-digit : (c : ℕ) → isHexDigit c ≡ true → HexDigit c
-unfolding isHexDigit hexValue hexDigit
-hex-digit c h = go (isDigit c) refl h
+-- 0 to 9, or a to f
+pub hex-range : (c : ℕ) → isHexDigit c ≡ true → Digit c ⊎ ((97 ≤ c) × (c ≤ 102))
+unfolding isHexDigit
+hex-range c h = go (isDigit c) refl h
   where
-    go : (b : Bool) → isDigit c ≡ b → b || (leb 97 c && leb c 102) ≡ true → HexDigit c
-    go true e k =
-        let d = digit c e in
-        record {
-          above = omega arith;
-          small = rw (le-leb c 57 (d .high)) (omega arith);
-          back = rw (le-leb c 57 (d .high), lt-ltb (c - 48) 10 (omega arith)) (omega arith);
-        }
-    go false e k =
-        let p = both (leb 97 c) _ k in
-        let l = leb-true 97 c (p .0) in
-        let m = leb-true c 102 (p .1) in
-        record {
-          above = omega arith;
-          small = rw (lt-leb c 57 (omega arith)) (omega arith);
-          back = rw (lt-leb c 57 (omega arith), le-ltb (c - 87) 10 (omega arith)) (omega arith);
-        }
+    go : (b : Bool) → isDigit c ≡ b → b || (leb 97 c && leb c 102) ≡ true → Digit c ⊎ ((97 ≤ c) × (c ≤ 102))
+    go true e k = inl (digit c e)
+    go false e k = let p = both (leb 97 c) _ k in inr (leb-true 97 c (p .0), leb-true c 102 (p .1))
+
+pub hex-digit : (c : ℕ) → isHexDigit c ≡ true → HexDigit c
+unfolding hexValue hexDigit
+hex-digit c h =
+    ⊎-elim
+    (λ (d : Digit c).
+    record {
+      above = d .low;
+      small = rw (le-leb c 57 (d .high)) (omega arith);
+      back = rw (le-leb c 57 (d .high), lt-ltb (c - 48) 10 (omega arith)) (omega arith);
+    })
+    (λ (d : (97 ≤ c) × (c ≤ 102)).
+    record {
+      above = omega arith;
+      small = rw (lt-leb c 57 (omega arith)) (omega arith);
+      back = rw (lt-leb c 57 (omega arith), le-ltb (c - 87) 10 (omega arith)) (omega arith);
+    })
+    (hex-range c h)
 
 -- ---- pairs of digits
 
