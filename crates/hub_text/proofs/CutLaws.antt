@@ -15,14 +15,14 @@ use native.Mathlib.Numerals.{add-one}
 use Rattle.mode.proofs.FormLaws.{le-or-lt}
 use Rattle.hub_text.specs.declared.cut.Cut.{Cut}
 use Rattle.hub_text.specs.Cuts.{Cuts}
-use Rattle.hub_text.specs.Lines.{joinFirst, wordsOf, wordLength, wordEnd, part}
+use Rattle.hub_text.specs.Lines.{joinFirst, wordsOf, lengthBefore, wordEnd, part}
 
-pub wordLength-most : (s : List ℕ) → wordLength s ≤ length s
-unfolding wordLength
-wordLength-most [] = omega arith
-wordLength-most (c ∷ s) = go (eqb c 32) (wordLength-most s)
+pub before-most : (x : ℕ) (s : List ℕ) → lengthBefore x s ≤ length s
+unfolding lengthBefore
+before-most x [] = omega arith
+before-most x (c ∷ s) = go (eqb c x) (before-most x s)
   where
-    go : (b : Bool) → wordLength s ≤ length s → cond b 0 (suc (wordLength s)) ≤ suc (length s)
+    go : (b : Bool) → lengthBefore x s ≤ length s → cond b 0 (suc (lengthBefore x s)) ≤ suc (length s)
     go true h = omega arith
     go false h = omega arith
 
@@ -37,26 +37,26 @@ eqb-next k n = go (eqb k n) refl
 rest-of : List ℕ → ℕ → List (List ℕ)
 rest-of s k = cond (eqb k (length s)) [] (wordsOf (drop (suc k) s))
 
-words-first : (s : List ℕ) → wordsOf s ≡ take (wordLength s) s ∷ rest-of s (wordLength s)
-unfolding wordsOf wordLength joinFirst rest-of
+words-first : (s : List ℕ) → wordsOf s ≡ take (lengthBefore 32 s) s ∷ rest-of s (lengthBefore 32 s)
+unfolding wordsOf lengthBefore joinFirst rest-of
 words-first [] = refl
 words-first (c ∷ s) = go (eqb c 32) (words-first s)
   where
-    go : (b : Bool) → wordsOf s ≡ take (wordLength s) s ∷ cond (eqb (wordLength s) (length s)) [] (wordsOf (drop (suc (wordLength s)) s)) →
-        cond b ([] ∷ wordsOf s) (joinFirst c (wordsOf s)) ≡ take (cond b 0 (suc (wordLength s))) (c ∷ s) ∷ cond (eqb (cond b 0 (suc (wordLength s))) (suc (length s))) [] (wordsOf (drop (suc (cond b 0 (suc (wordLength s)))) (c ∷ s)))
+    go : (b : Bool) → wordsOf s ≡ take (lengthBefore 32 s) s ∷ cond (eqb (lengthBefore 32 s) (length s)) [] (wordsOf (drop (suc (lengthBefore 32 s)) s)) →
+        cond b ([] ∷ wordsOf s) (joinFirst c (wordsOf s)) ≡ take (cond b 0 (suc (lengthBefore 32 s))) (c ∷ s) ∷ cond (eqb (cond b 0 (suc (lengthBefore 32 s))) (suc (length s))) [] (wordsOf (drop (suc (cond b 0 (suc (lengthBefore 32 s)))) (c ∷ s)))
     go true h = rw (ne-eqb 0 (suc (length s)) (λ z. omega (arith, z))) refl
-    go false h = ap (joinFirst c) h ∙ ap (λ (x : Bool). (c ∷ take (wordLength s) s) ∷ cond x [] (wordsOf (drop (suc (wordLength s)) s))) (sym (eqb-next (wordLength s) (length s)))
+    go false h = ap (joinFirst c) h ∙ ap (λ (x : Bool). (c ∷ take (lengthBefore 32 s) s) ∷ cond x [] (wordsOf (drop (suc (lengthBefore 32 s)) s))) (sym (eqb-next (lengthBefore 32 s) (length s)))
 
 -- ---- the word that begins at a place
 
 module _ (s : List ℕ) (i : ℕ) (h : i ≤ length s) where
   end-most : wordEnd s i ≤ length s
-  end-most = omega (arith, wordLength-most (drop i s), length-drop i s)
+  end-most = omega (arith, before-most 32 (drop i s), length-drop i s)
 
   pub one-word : (e : ℕ) → e ≡ wordEnd s i → e ≡ length s → wordsOf (drop i s) ≡ part s i e ∷ []
   unfolding rest-of
   one-word e w z =
-      let k = wordLength (drop i s) in
+      let k = lengthBefore 32 (drop i s) in
       let l : k ≡ length (drop i s) = omega (arith, length-drop i s, w, z) in
       let t : k ≡ e - i = omega (arith, w) in
       words-first (drop i s) ∙ ap₂ (λ (j : ℕ) (b : Bool). take j (drop i s) ∷ cond b [] (wordsOf (drop (suc k) (drop i s)))) t (eq-eqb k (length (drop i s)) l)
@@ -64,7 +64,7 @@ module _ (s : List ℕ) (i : ℕ) (h : i ≤ length s) where
   pub more-words : (e : ℕ) → e ≡ wordEnd s i → (e ≡ length s → ⊥) → (wordsOf (drop i s) ≡ part s i e ∷ wordsOf (drop (e + 1) s)) × (e < length s)
   unfolding rest-of
   more-words e w n =
-      let k = wordLength (drop i s) in
+      let k = lengthBefore 32 (drop i s) in
       let o : k ≡ length (drop i s) → ⊥ = λ z. n (omega (arith, length-drop i s, w, z)) in
       let t : k ≡ e - i = omega (arith, w) in
       let d : drop (suc k) (drop i s) ≡ drop (e + 1) s = drop-drop (suc k) i s ∙ ap (λ (j : ℕ). drop j s) {x = i + suc k} {y = e + 1} (omega (arith, w)) in
@@ -78,33 +78,33 @@ module _ (s : List ℕ) (i : ℕ) (h : i ≤ length s) where
       lt-of : (x y : ℕ) → x ≤ y → (x ≡ y → ⊥) → x < y
       lt-of x y p q = ⊎-elim (λ (k : y ≤ x). absurd (q (le-antisymm p k))) (λ (k : x < y). k) (le-or-lt y x)
 
--- ---- the loop over a word
+-- ---- the loop over a word, or over a line
 
-pub record Sought (s : List ℕ) (i : ℕ) : Type 0 where
+pub record Sought (x : ℕ) (s : List ℕ) (i : ℕ) : Type 0 where
   pub within : i ≤ length s
-  pub so-far : wordLength s ≡ i + wordLength (drop i s)
+  pub so-far : lengthBefore x s ≡ i + lengthBefore x (drop i s)
 
-pub sought-none : (s : List ℕ) → Sought s 0
-sought-none s = record { within = omega arith; so-far = omega arith }
+pub sought-none : (x : ℕ) (s : List ℕ) → Sought x s 0
+sought-none x s = record { within = omega arith; so-far = omega arith }
 
-length-cons : (s : List ℕ) (i : ℕ) → i < length s → wordLength (drop i s) ≡ cond (eqb (getD s i 0) 32) 0 (suc (wordLength (drop (suc i) s)))
-unfolding wordLength
-length-cons s i h = ap wordLength (drop-cons s i 0 h)
+length-cons : (x : ℕ) (s : List ℕ) (i : ℕ) → i < length s → lengthBefore x (drop i s) ≡ cond (eqb (getD s i 0) x) 0 (suc (lengthBefore x (drop (suc i) s)))
+unfolding lengthBefore
+length-cons x s i h = ap (lengthBefore x) (drop-cons s i 0 h)
 
-pub sought-turn : {s : List ℕ} {i : ℕ} → Sought s i → i < length s → (getD s i 0 ≡ 32 → ⊥) → Sought s (i + 1)
-sought-turn {s} {i} v h n =
-    let e : wordLength (drop i s) ≡ suc (wordLength (drop (suc i) s)) = length-cons s i h ∙ rw (ne-eqb (getD s i 0) 32 n) refl in
+pub sought-turn : {x : ℕ} {s : List ℕ} {i : ℕ} → Sought x s i → i < length s → (getD s i 0 ≡ x → ⊥) → Sought x s (i + 1)
+sought-turn {x} {s} {i} v h n =
+    let e : lengthBefore x (drop i s) ≡ suc (lengthBefore x (drop (suc i) s)) = length-cons x s i h ∙ rw (ne-eqb (getD s i 0) x n) refl in
     rw (add-one i) (record { within = omega arith; so-far = v .so-far ∙ omega (arith, e) })
 
-pub sought-space : {s : List ℕ} {i : ℕ} → Sought s i → i < length s → getD s i 0 ≡ 32 → (i ≡ wordLength s) × (i ≤ length s)
-sought-space {s} {i} v h z =
-    let e : wordLength (drop i s) ≡ 0 = length-cons s i h ∙ rw (eq-eqb (getD s i 0) 32 z) refl in
+pub sought-here : {x : ℕ} {s : List ℕ} {i : ℕ} → Sought x s i → i < length s → getD s i 0 ≡ x → (i ≡ lengthBefore x s) × (i ≤ length s)
+sought-here {x} {s} {i} v h z =
+    let e : lengthBefore x (drop i s) ≡ 0 = length-cons x s i h ∙ rw (eq-eqb (getD s i 0) x z) refl in
     (sym (v .so-far ∙ omega (arith, e)), omega arith)
 
-pub sought-all : {s : List ℕ} {i : ℕ} → Sought s i → length s ≤ i → (i ≡ wordLength s) × (i ≤ length s)
-unfolding wordLength
-sought-all {s} {i} v h =
-    let e : wordLength (drop i s) ≡ 0 = ap wordLength (drop-of-length-le s {i = i} h) in
+pub sought-all : {x : ℕ} {s : List ℕ} {i : ℕ} → Sought x s i → length s ≤ i → (i ≡ lengthBefore x s) × (i ≤ length s)
+unfolding lengthBefore
+sought-all {x} {s} {i} v h =
+    let e : lengthBefore x (drop i s) ≡ 0 = ap (lengthBefore x) (drop-of-length-le s {i = i} h) in
     (sym (v .so-far ∙ omega (arith, e)), v .within)
 
 -- ---- the places of the spaces

@@ -1,4 +1,3 @@
-pub mod Example
 pub mod WordLaws
 pub mod NumeralLaws
 pub mod Grammar

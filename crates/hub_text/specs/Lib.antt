@@ -1,6 +1,5 @@
 pub mod Numerals
+pub mod Writing
 pub mod Lines
 pub mod Cuts
 pub mod Requests
-pub mod Answers
-pub mod Whole

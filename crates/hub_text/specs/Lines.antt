@@ -3,7 +3,7 @@
 use mathlib.Core.Path.{_≡_}
 use mathlib.Core.Bool.{Bool, cond, _&&_, _||_}
 use mathlib.Core.List.{List, [], _∷_, _++_}
-use Prim.Native.Nat.{ℕ, suc, _+_, _-_, _<_, _≤_}
+use Prim.Native.Nat.{ℕ, suc, _+_, _-_, _≤_}
 use lib.Dec.{eqb, leb}
 use lib.ListN.{length, getD, take, drop}
 use Rattle.octets.specs.Strings.{Bytes, eqs}
@@ -62,14 +62,14 @@ unfoldable pub wordsOf : List ℕ → List (List ℕ)
 wordsOf [] = [] ∷ []
 wordsOf (c ∷ s) = cond (eqb c 32) ([] ∷ wordsOf s) (joinFirst c (wordsOf s))
 
--- the same by places: how many characters stand before the first space, or in all
-unfoldable pub wordLength : List ℕ → ℕ
-wordLength [] = 0
-wordLength (c ∷ s) = cond (eqb c 32) 0 (suc (wordLength s))
+-- how many characters stand before the first x, or in all
+unfoldable pub lengthBefore : ℕ → List ℕ → ℕ
+lengthBefore x [] = 0
+lengthBefore x (c ∷ s) = cond (eqb c x) 0 (suc (lengthBefore x s))
 
--- where the word ends that begins at a place
+-- words by places: where the word ends that begins at a place
 abbrev pub wordEnd : List ℕ → ℕ → ℕ
-wordEnd s i = i + wordLength (drop i s)
+wordEnd s i = i + lengthBefore 32 (drop i s)
 
 -- the characters from one place to another
 abbrev pub part : List ℕ → ℕ → ℕ → List ℕ

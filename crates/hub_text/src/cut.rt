@@ -3,7 +3,7 @@ ghost use mathlib.Core.Path.{_≡_};
 ghost use mathlib.Core.Bool.{false};
 ghost use Prim.Native.Nat.{_+_, _≤_};
 ghost use lib.ListN.{length};
-ghost use Rattle.hub_text.specs.Lines.{wordLength, wordEnd};
+ghost use Rattle.hub_text.specs.Lines.{lengthBefore, wordEnd};
 ghost use Rattle.hub_text.specs.Cuts.{Cuts};
 
 // The places of the five spaces, where there are six words.
@@ -16,13 +16,13 @@ pub struct Cut {
     pub e: usize,
 }
 
-// How many bytes stand before the first space, or in all.
-fn word_length(s: &[u8]) -> usize
-    ensures { λ r. ⌜ (r ≡ wordLength (now (s .entry))) × (r ≤ length (now (s .entry))) ⌝ }
+// How many bytes stand before the first x, or in all.
+pub fn length_before(s: &[u8], x: u8) -> usize
+    ensures { λ r. ⌜ (r ≡ lengthBefore x (now (s .entry))) × (r ≤ length (now (s .entry))) ⌝ }
 {
     let mut i = 0;
     while i < s.len() {
-        if s[i] == 32 {
+        if s[i] == x {
             return i;
         }
         i += 1;
@@ -35,7 +35,7 @@ fn word_end(line: &[u8], from: usize) -> usize
     requires { ⌜ from ≤ length (now line) ⌝ }
     ensures { λ r. ⌜ (r ≡ wordEnd (now (line .entry)) from) × (r ≤ length (now (line .entry))) ⌝ }
 {
-    from + word_length(&line[from..])
+    from + length_before(&line[from..], 32)
 }
 
 // A line of another number of words.

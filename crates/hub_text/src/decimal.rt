@@ -1,15 +1,15 @@
 // Numbers in decimal without leading zeros.
 ghost use mathlib.Core.Path.{_≡_};
 ghost use mathlib.Core.Bool.{true};
-ghost use mathlib.Core.List.{_++_};
 ghost use Prim.Native.Nat.{_+_, _≤_, _<_};
-ghost use lib.ListN.{length, drop};
+ghost use lib.ListN.{length};
 ghost use Rattle.hub_text.specs.Numerals.{decimal, isDigit, allDigits, isSetNumber, decimalValue};
+ghost use Rattle.hub_text.specs.Writing.{Puts};
 
 // A number below 10,000 over the first bytes of out, and how many bytes it has.
 pub fn put_decimal(n: u32, out: &mut [u8]) -> usize
     requires { ⌜ (n < 10000) × (4 ≤ length (now out)) ⌝ }
-    ensures { λ r. ⌜ (r ≡ length (decimal n)) × (now (out .exit) ≡ decimal n ++ drop r (now (out .entry))) ⌝ }
+    ensures { λ r. ⌜ (r ≤ 4) × Puts (decimal n) r (now (out .entry)) (now (out .exit)) ⌝ }
 {
     let digits = [
         (48 + n / 1000) as u8,

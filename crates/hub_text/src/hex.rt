@@ -2,9 +2,10 @@
 ghost use mathlib.Core.Path.{_≡_};
 ghost use mathlib.Core.Bool.{true};
 ghost use mathlib.Core.List.{_++_};
-ghost use Prim.Native.Nat.{_*_, _/_, _≤_, _<_};
+ghost use Prim.Native.Nat.{_+_, _*_, _/_, _≤_, _<_};
 ghost use lib.ListN.{length, drop};
 ghost use Rattle.hub_text.specs.Numerals.{hexDigit, hex, shown, isHexDigit, hexValue, areHexPairs, unhex, isValue, valueOf};
+ghost use Rattle.hub_text.specs.Writing.{Puts};
 
 // A digit of a number below 16.
 fn hex_digit(v: u8) -> u8
@@ -33,7 +34,7 @@ fn put_hex(s: &[u8], out: &mut [u8])
 // The same, or `-` where the string is empty; the number of bytes written.
 pub fn put_shown(s: &[u8], out: &mut [u8]) -> usize
     requires { ⌜ (2 * length (now s) ≤ length (now out)) × (0 < length (now out)) ⌝ }
-    ensures { λ r. ⌜ (r ≡ length (shown (now (s .entry)))) × (now (out .exit) ≡ shown (now (s .entry)) ++ drop r (now (out .entry))) ⌝ }
+    ensures { λ r. ⌜ (r ≤ 2 * length (now (s .entry)) + 1) × Puts (shown (now (s .entry))) r (now (out .entry)) (now (out .exit)) ⌝ }
 {
     if s.len() == 0 {
         out[0] = 45;
@@ -114,7 +115,7 @@ fn read_hex(w: &[u8], out: &mut [u8])
 pub fn read_value(w: &[u8], out: &mut [u8]) -> usize
     requires { ⌜ isValue (now w) ≡ true ⌝ }
     requires { ⌜ length (now w) / 2 ≤ length (now out) ⌝ }
-    ensures { λ r. ⌜ (r ≡ length (valueOf (now (w .entry)))) × (now (out .exit) ≡ valueOf (now (w .entry)) ++ drop r (now (out .entry))) ⌝ }
+    ensures { λ r. ⌜ Puts (valueOf (now (w .entry))) r (now (out .entry)) (now (out .exit)) ⌝ }
 {
     if w.len() == 1 {
         return 0;

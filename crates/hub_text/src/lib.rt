@@ -1,10 +1,11 @@
-// The text of the hub program, begun: what a line says, and numbers and strings as text.
+// The text of the hub program: numbers, strings and words, and what a line asks for.
 mod cut;
 mod decimal;
 mod hex;
 mod request;
 
 pub use cut::Cut;
+pub use cut::length_before;
 pub use cut::spaces;
 pub use decimal::is_set_number;
 pub use decimal::put_decimal;
@@ -13,4 +14,6 @@ pub use hex::is_value;
 pub use hex::put_shown;
 pub use hex::read_value;
 pub use request::Asked;
+pub use request::is_word;
 pub use request::read_line;
+pub use request::word;

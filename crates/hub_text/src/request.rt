@@ -28,7 +28,7 @@ pub struct Asked {
 }
 
 // Whether a word is another.
-fn is_word(w: &[u8], word: &[u8]) -> bool
+pub fn is_word(w: &[u8], word: &[u8]) -> bool
     ensures { λ r. ⌜ r ≡ eqs (now (w .entry)) (now (word .entry)) ⌝ }
 {
     if w.len() != word.len() {
@@ -68,7 +68,7 @@ fn is_act(w: &[u8]) -> bool
 }
 
 // The characters of a line from one place to another.
-fn word<'a>(line: &'a [u8], from: usize, to: usize) -> &'a [u8]
+pub fn word<'a>(line: &'a [u8], from: usize, to: usize) -> &'a [u8]
     requires { ⌜ (from ≤ to) × (to ≤ length (now line)) ⌝ }
     ensures { λ r. ⌜ now r ≡ part (now (line .entry)) from to ⌝ }
 {

@@ -1,7 +1,6 @@
 -- `hub_text::cut::spaces` meets its contract.
 -- Assumes nothing.
 use native.Mathlib.Omega.{arith}
-use mathlib.Core.Path.{_∙_}
 use Rattle.hub_text.proofs.CutLaws.{found-none, found-more, found-last, found-over, other-cut, six-cut}
 use borrow.Author.Needs.{needs}
 use Rattle.hub_text.proofs.cut.spaces.Statement.{statement}

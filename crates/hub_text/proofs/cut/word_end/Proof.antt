@@ -1,12 +1,11 @@
 -- `hub_text::cut::word_end` meets its contract.
 -- Assumes nothing.
-use mathlib.Core.Path.{_≡_, ap, _∙_}
-use mathlib.Core.List.{List}
+use mathlib.Core.Path.{ap, _∙_}
 use Prim.Native.Nat.{ℕ, _+_}
 use native.Mathlib.Omega.{arith}
 use lib.ListN.{length, length-drop}
 use Rattle.sealing.proofs.TailLaws.{to-end}
-use Rattle.hub_text.specs.Lines.{wordLength}
+use Rattle.hub_text.specs.Lines.{lengthBefore}
 use borrow.Author.Needs.{needs}
 use Rattle.hub_text.proofs.cut.word_end.Statement.{statement}
 use Rattle.hub_text.proofs.cut.word_end.Tie as tie
@@ -14,9 +13,9 @@ use Rattle.hub_text.proofs.cut.word_end.Tie as tie
 returns : tie.Need-returns
 returns c =
     let a = c .before .before .before .args in
-    let r = c .word-length .ensures in
+    let r = c .length-before .ensures in
     let e = to-end (a .line .now) (a .from) in (
-      ap (λ (k : ℕ). a .from + k) (r .0 ∙ ap wordLength e),
+      ap (λ (k : ℕ). a .from + k) (r .0 ∙ ap (lengthBefore 32) e),
       omega (arith, r .1, ap length e, length-drop (a .from) (a .line .now), c .before .before .before .pre),
     )
 

@@ -9,7 +9,7 @@ returns : tie.Need-returns
 returns c =
     let at = c .before .before .before .before .before .before .before .before in
     let from = c .before .before .before .before .before .before .leading in
-    put-without (at .args .n) (from .result) (at .args .out .now) _ (at .pre .0) (from .ensures) (c .before .before .put .ensures)
+    (search needs, put-without (at .args .n) (from .result) (at .args .out .now) _ (at .pre .0) (from .ensures) (c .before .before .put .ensures))
 
 pub put-decimal-spec : {M : Type 1} → statement M
 put-decimal-spec =

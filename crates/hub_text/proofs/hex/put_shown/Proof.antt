@@ -11,8 +11,8 @@ put-shown-spec =
     (tie.spec
     (λ c. search needs)
     (λ c. search needs)
-    (λ c. let at = c .before .before .before in shown-empty (at .args .s .now) (at .args .out .now) (c .if1 .taken) (at .pre .1))
+    (λ c. let at = c .before .before .before in (search needs, shown-empty (at .args .s .now) (at .args .out .now) (c .if1 .taken) (at .pre .1)))
     (λ c κs. search needs)
     (λ c. search needs)
     (λ c. search needs)
-    (λ c. let at = c .before .before .before .before .before .before .before in shown-some (at .args .s .now) (at .args .out .now) _ (c .before .before .before .before .if1 .left) (c .before .before .put-hex .ensures)))
+    (λ c. let at = c .before .before .before .before .before .before .before in (search needs, shown-some (at .args .s .now) (at .args .out .now) _ (c .before .before .before .before .if1 .left) (c .before .before .put-hex .ensures))))

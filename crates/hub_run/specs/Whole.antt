@@ -6,9 +6,9 @@ use Prim.Native.Nat.{ℕ, zero, suc, _+_}
 use lib.Dec.{eqb}
 use lib.ListN.{length}
 use Rattle.octets.specs.Strings.{eqs}
 use Rattle.hub_text.specs.Numerals.{decimal}
 use Rattle.hub_text.specs.Lines.{parse}
-use Rattle.hub_text.specs.Answers.{acceptedSet, lineFor}
+use Rattle.hub_answer.specs.Answers.{acceptedSet, lineFor}
 
 -- `act set key nonce data text`
 abbrev pub firstLine : List ℕ

@@ -40,5 +40,9 @@ acceptedSet (asked r) = cond (eqb (requestAnswer r) 0) (r .set) 0
 acceptedSet malformed = 0
 
 -- `number answer result`, and LF
+unfoldable pub lineText : ℕ → ℕ → List ℕ → List ℕ
+lineText n a s = decimal n ++ ((32 ∷ decimal a) ++ ((32 ∷ shown s) ++ (10 ∷ [])))
+
+-- what is said of the line s, the n-th after the first
 unfoldable pub lineFor : ℕ → List ℕ → List ℕ
-lineFor n s = decimal n ++ ((32 ∷ decimal (answerOf (parse s))) ++ ((32 ∷ shown (resultOf (parse s))) ++ (10 ∷ [])))
+lineFor n s = lineText n (answerOf (parse s)) (resultOf (parse s))

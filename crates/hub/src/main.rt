@@ -1,0 +1,116 @@
+// The hub program: standard input in large chunks, standard output in large writes. Every byte that it
+// writes is decided by `hub_run`, which says of each chunk what it adds to the output.
+use hub_run::Hub;
+use libc::STDIN_FILENO;
+use libc::STDOUT_FILENO;
+ghost use mathlib.Core.Path.{_≡_};
+ghost use mathlib.Core.Bool.{false};
+ghost use Prim.Native.Nat.{_≤_};
+ghost use lib.ListN.{length};
+ghost use Rattle.hub_run.specs.Stream.{after};
+ghost use Rattle.hub_run.specs.Values.{Sound, stateOf};
+
+// The state, whether more is to be read, and whether a write failed.
+struct Going {
+    hub: Hub,
+    more: bool,
+    failed: bool,
+}
+
+// Writes the first n bytes of out, and says whether that succeeded.
+fn write(out: &[u8], n: usize) -> bool
+    requires { ⌜ n ≤ length (now out) ⌝ }
+{
+    io::write_all(STDOUT_FILENO, &out[..n])
+}
+
+// Feeds a chunk and writes what it says, piece by piece where the output is longer than its buffer.
+fn say(h: Hub, line: &mut [u8], chunk: &[u8], out: &mut [u8]) -> Going
+    requires { ⌜ 4200 ≤ length (now out) ⌝ }
+    requires { ⌜ Sound h (now line) ⌝ }
+    ensures { λ r. ⌜ Sound (r .hub) (now (line .exit)) × (r .failed ≡ false → stateOf (r .hub) (now (line .exit)) ≡ after (stateOf h (now (line .entry))) (now (chunk .entry))) ⌝ }
+{
+    let mut next = h;
+    let mut used = 0;
+    while used < chunk.len() {
+        let f = hub_run::feed(next, line, &chunk[used..], out);
+        next = f.hub;
+        used += f.used;
+        if !write(out, f.written) {
+            return Going {
+                hub: next,
+                more: false,
+                failed: true,
+            };
+        }
+    }
+    Going {
+        hub: next,
+        more: !hub_run::is_over(next),
+        failed: false,
+    }
+}
+
+// One read, and what it says.
+fn read_some(h: Hub, input: &mut [u8], line: &mut [u8], out: &mut [u8]) -> Going
+    requires { ⌜ 4200 ≤ length (now out) ⌝ }
+    requires { ⌜ Sound h (now line) ⌝ }
+    ensures { λ r. ⌜ Sound (r .hub) (now (line .exit)) ⌝ }
+{
+    let n = io::count(libc::read(STDIN_FILENO, input), input);
+    if n == 0 {
+        return Going {
+            hub: h,
+            more: false,
+            failed: false,
+        };
+    }
+    say(h, line, &input[..n], out)
+}
+
+// Reads until the input ends, no more of it counts, or a write fails. A proved loop has to end, and
+// nothing says that an input does, so it counts its turns down from a number that no run uses up.
+fn read_all(input: &mut [u8], line: &mut [u8], out: &mut [u8]) -> Going
+    requires { ⌜ (4097 ≤ length (now line)) × (4200 ≤ length (now out)) ⌝ }
+    ensures { λ r. ⌜ Sound (r .hub) (now (line .exit)) ⌝ }
+{
+    let mut g = Going {
+        hub: hub_run::begin(),
+        more: true,
+        failed: false,
+    };
+    let mut turns = u64::MAX;
+    while turns > 0 {
+        let h = g.hub;
+        g = read_some(h, input, line, out);
+        if !g.more {
+            return g;
+        }
+        turns -= 1;
+    }
+    g
+}
+
+// The heading, what the input says, and the end.
+fn run(input: &mut [u8], line: &mut [u8], out: &mut [u8])
+    requires { ⌜ (4097 ≤ length (now line)) × (4400 ≤ length (now out)) ⌝ }
+{
+    let n = hub_run::put_heading(out);
+    if !write(out, n) {
+        return;
+    }
+    let g = read_all(input, line, out);
+    if g.failed {
+        return;
+    }
+    let h = g.hub;
+    let m = hub_run::finish(h, line, out);
+    write(out, m);
+}
+
+fn main() {
+    let mut input = io::large_buffer();
+    let mut out = io::large_buffer();
+    let mut line = [0u8; 4097];
+    run(&mut input, &mut line, &mut out);
+}

@@ -1,0 +1,216 @@
+-- What a line is answered: the plain calls with an output that is long enough, the reply, and the line of output.
+-- Assumes nothing.
+use mathlib.Core.Path.{_≡_, refl, sym, ap, subst, _∙_}
+use mathlib.Core.Bool.{Bool, true, false, cond, _&&_}
+use mathlib.Core.List.{List, [], _∷_}
+use Prim.Native.Nat.{ℕ, _+_, _-_, _<_, _≤_}
+use native.Mathlib.Omega.{arith}
+use borrow.Author.Tests.{eq-eqb, ne-eqb, lt-leb, leb-true, le-ltb, ltb-true, ltb-false}
+use lib.Dec.{T, eqb, leb, ltb}
+use lib.ListN.{length, take, length-take, length-drop, length-replicate}
+use Rattle.mode.specs.Sets.{isSet}
+use Rattle.mode.specs.Open.{messageOf}
+use Rattle.cba.specs.Refusals.{Row, answer, setTag, opening, sealRows, openRows, sealAnswer, openAnswer, SealCall, OpenCall}
+use Rattle.cba.specs.Demands.{Passed, AllBytes}
+use Rattle.cba.proofs.AnswerLaws.{set-fits, seal-passed, open-passed, open-refusals}
+use Rattle.cba.proofs.Demands.{demand-2, speaks}
+use Rattle.hub_answer.specs.declared.answer.Reply.{Reply}
+use Rattle.hub_text.specs.declared.request.Asked.{Asked}
+use Rattle.hub_text.specs.Lines.{Request, Parsed, Writable, part, parse}
+use Rattle.hub_text.specs.Lines.Parsed.{asked, malformed}
+use Rattle.hub_text.specs.Requests.{requestOf, Read}
+use Rattle.hub_answer.specs.Answers.{room, requestAnswer, requestResult, answerOf, resultOf, acceptedSet, lineText, lineFor}
+use Rattle.hub_text.specs.Writing.{Puts}
+use Rattle.hub_answer.specs.Replies.{resultBytes, resultLength, Sized, Called, Refused, Replies, Answers}
+use Rattle.hub_text.proofs.NumeralLaws.{both}
+use Rattle.hub_text.proofs.Grammar.{grammar}
+
+-- ---- an output that is long enough does not count
+
+pub tag-most : (set : ℕ) → isSet set ≡ true → setTag set ≤ 16
+tag-most set h = let f = set-fits set h .0 in omega arith
+
+module _ (set : ℕ) (key N A text o o′ : List ℕ) (h : length text + 16 ≤ length o) (h′ : length text + 16 ≤ length o′) where
+  seal-any : sealAnswer set key N A text o ≡ sealAnswer set key N A text o′
+  unfolding sealAnswer sealRows answer
+  seal-any = go (isSet set) refl
+    where
+      go : (b : Bool) → isSet set ≡ b → sealAnswer set key N A text o ≡ sealAnswer set key N A text o′
+      go false e = rw e
+      go true e =
+          let t = tag-most set e in
+          rw (le-ltb (length o) (length text + setTag set) (omega arith), le-ltb (length o′) (length text + setTag set) (omega arith))
+
+  open-any : openAnswer set key N A text o ≡ openAnswer set key N A text o′
+  unfolding openAnswer openRows answer
+  open-any = rw (le-ltb (length o) (length text - setTag set) (omega arith), le-ltb (length o′) (length text - setTag set) (omega arith))
+
+-- ---- the plain call of a request
+
+-- what its answer r says, and what it leaves in the output, out
+pub record Calls (q : Request) (r : ℕ) (out : List ℕ) : Type 0 where
+  pub answer-is : r ≡ requestAnswer q
+  pub sized : r ≡ 0 → Sized (q .seals) (q .set) (length (q .text))
+  pub result-is : r ≡ 0 → take (resultLength q) out ≡ requestResult q
+
+module _ (q : Request) (w : Writable q) (out : List ℕ) (h : length (q .text) + 16 ≤ length out) (r : ℕ) (out′ : List ℕ) where
+  abbrev Seals : Type 0
+  Seals = SealCall (q .set) (q .key) (q .nonce) (q .header) (q .text) out r out′
+
+  abbrev Opens : Type 0
+  Opens = OpenCall (q .set) (q .key) (q .nonce) (q .header) (q .text) out r out′
+
+  enough : length (q .text) + 16 ≤ length (room q)
+  enough = omega (arith, length-replicate {A = ℕ} (length (q .text) + 16) 0)
+
+  seal-accepted : Seals → r ≡ 0 → Passed (q .set) (q .key) (q .nonce) (q .header) (q .text) 65536
+  seal-accepted c e = seal-passed (q .set) (q .key) (q .nonce) (q .header) (q .text) out (sym (c .0) ∙ e)
+
+  seal-is : q .seals ≡ true → Seals → Calls q r out′
+  unfolding requestAnswer requestResult
+  seal-is s c =
+      let a : r ≡ requestAnswer q = rw s (c .0 ∙ seal-any (q .set) (q .key) (q .nonce) (q .header) (q .text) out (room q) h enough) in
+      record {
+        answer-is = a;
+        sized = λ e. record { is-set = seal-accepted c e .is-set; long = λ z. absurd (subst T (sym s ∙ z) tt) };
+        result-is = λ e.
+            let p = seal-accepted c e in
+            rw (eq-eqb (requestAnswer q) 0 (sym a ∙ e), s)
+            (speaks .seals (q .set) (q .key) (q .nonce) (q .header) (q .text)
+            (record {
+              is-set = p .is-set;
+              its-key = record { size = p .key-length; small = w .key-bytes };
+              its-nonce = record { size = p .nonce-length; small = w .nonce-bytes };
+              its-data = w .header-bytes;
+              data-limit = p .data-limit;
+            })
+            (record { bytes = w .text-bytes; limit = p .text-limit }) out (omega (arith, tag-most (q .set) (p .is-set))) r out′ c .1);
+      }
+
+  open-accepted : Opens → r ≡ 0 → Passed (q .set) (q .key) (q .nonce) (q .header) (q .text) (65536 + setTag (q .set))
+  open-accepted c e = open-passed (q .set) (q .key) (q .nonce) (q .header) (q .text) out 0 (λ k g i z. omega (arith, z)) (sym (c .0) ∙ e) .0
+
+  -- what opens has room for its tag
+  open-long : Opens → r ≡ 0 → setTag (q .set) ≤ length (q .text)
+  open-long c e = go (ltb (length (q .text)) (setTag (q .set))) refl
+    where
+      go : (b : Bool) → ltb (length (q .text)) (setTag (q .set)) ≡ b → setTag (q .set) ≤ length (q .text)
+      go false z = ltb-false (length (q .text)) (setTag (q .set)) z
+      go true z =
+          let stub = open-refusals (q .set) (q .key) (q .nonce) (q .header) (q .text) out r out′ c .refuse-stub (open-accepted c e) (ltb-true (length (q .text)) (setTag (q .set)) z) in
+          absurd (omega (arith, e, stub))
+
+  open-is : q .seals ≡ false → Opens → Calls q r out′
+  unfolding requestAnswer requestResult opening messageOf
+  open-is s c =
+      let a : r ≡ requestAnswer q = rw s (c .0 ∙ open-any (q .set) (q .key) (q .nonce) (q .header) (q .text) out (room q) h enough) in
+      record {
+        answer-is = a;
+        sized = λ e. record { is-set = open-accepted c e .is-set; long = λ z. open-long c e };
+        result-is = λ e.
+            let b : AllBytes (q .key) (q .nonce) (q .header) (q .text) =
+            record { key-bytes = w .key-bytes; nonce-bytes = w .nonce-bytes; data-bytes = w .header-bytes; text-bytes = w .text-bytes } in
+            rw (eq-eqb (requestAnswer q) 0 (sym a ∙ e), s)
+            (sym (ap messageOf (demand-2 .opens (q .set) (q .key) (q .nonce) (q .header) (q .text) out r out′ b c e .0)));
+      }
+
+  pub call-is : Called q out r out′ → Calls q r out′
+  call-is c = go (q .seals) refl
+    where
+      go : (b : Bool) → q .seals ≡ b → Calls q r out′
+      go true s = seal-is s (c .sealed s)
+      go false s = open-is s (c .opened s)
+
+-- ---- the reply
+
+pub parse-long : (s : List ℕ) → 4096 < length s → parse s ≡ malformed
+unfolding parse
+parse-long s h = rw (lt-leb (length s) 4096 h)
+
+pub reply-malformed : {p : Parsed} {r : Reply} {b : List ℕ} → p ≡ malformed → Refused 11 r → Replies p r b
+unfolding answerOf acceptedSet resultOf
+reply-malformed e f = rw e (record { answer-is = f .0; set-is = f .1; fits = omega (arith, f .2); result-is = rw (f .2) })
+
+reply-refused : {q : Request} {a : ℕ} {b : List ℕ} {r : Reply} → Calls q a b → (a ≡ 0 → ⊥) → Refused a r → Replies (asked q) r b
+unfolding answerOf acceptedSet resultOf requestResult
+reply-refused {q} c n f =
+    let z : eqb (requestAnswer q) 0 ≡ false = ne-eqb (requestAnswer q) 0 (λ z. n (c .answer-is ∙ z)) in
+    record { answer-is = f .0 ∙ c .answer-is; set-is = rw z (f .1); fits = omega (arith, f .2); result-is = rw (f .2, z) }
+
+reply-accepted : {q : Request} {a n : ℕ} {b : List ℕ} → Calls q a b → a ≡ 0 → n ≡ resultLength q → n ≤ length b →
+    Replies (asked q) (record { answer = 0; set = q .set; length = n }) b
+unfolding answerOf acceptedSet resultOf
+reply-accepted {q} {b = b} c z l h =
+    record {
+      answer-is = sym z ∙ c .answer-is;
+      set-is = rw (eq-eqb (requestAnswer q) 0 (sym (c .answer-is) ∙ z));
+      fits = h;
+      result-is = ap (λ (k : ℕ). take k b) l ∙ c .result-is z;
+    }
+
+part-length : (b : List ℕ) (i j : ℕ) → i ≤ j → j ≤ length b → length (part b i j) ≡ j - i
+part-length b i j h g = simp (length-take, length-drop) (omega arith)
+
+result-most : (seals : Bool) (set n : ℕ) → Sized seals set n → resultBytes seals set n ≤ n + 16
+result-most true set n s = omega (arith, tag-most set (s .is-set))
+result-most false set n s = omega arith
+
+-- a line that was read, and the call that it asks for
+module _ {s b out out′ : List ℕ} {a : Asked} {r : ℕ} (read : Read s a b) (good : a .good ≡ true) (h : length b + 16 ≤ length out) (called : Called (requestOf a b) out r out′) where
+  text-length : length (part b (a .header) (a .text)) ≡ a .text - a .header
+  text-length = let o = read .ordered good in part-length b (a .header) (a .text) (o .2) (o .3)
+
+  call : Calls (requestOf a b) r out′
+  call =
+      let o = read .ordered good in
+      call-is (requestOf a b) (grammar .only s (requestOf a b) (read .asked-is good) .0) out (omega (arith, text-length, o .3)) r out′ called
+
+  pub read-refused : (r ≡ 0 → ⊥) → {x : Reply} → Refused r x → Replies (parse s) x out′
+  read-refused n f = rw (read .asked-is good) (reply-refused call n f)
+
+  module _ (z : r ≡ 0) where
+    pub read-sized : Sized (a .seals) (a .set) (a .text - a .header)
+    read-sized = subst (Sized (a .seals) (a .set)) text-length (call .sized z)
+
+    pub read-accepted : {n : ℕ} → n ≡ resultBytes (a .seals) (a .set) (a .text - a .header) → length out′ ≡ length out →
+        Replies (parse s) (record { answer = 0; set = a .set; length = n }) out′
+    read-accepted {n} e l =
+        let o = read .ordered good in
+        let m = result-most (a .seals) (a .set) (a .text - a .header) read-sized in
+        rw (read .asked-is good)
+        (reply-accepted call z (e ∙ ap (resultBytes (a .seals) (a .set)) (sym text-length)) (omega (arith, m, e, o .3)))
+
+-- ---- the line of output
+
+-- the numbers of the rows are at most 8
+allSmall : List Row → Bool
+allSmall [] = true
+allSmall (r ∷ rows) = leb (r .number) 8 && allSmall rows
+
+either-most : (b : Bool) (x y m : ℕ) → x ≤ m → y ≤ m → cond b x y ≤ m
+either-most true x y m h g = h
+either-most false x y m h g = g
+
+rows-most : (rows : List Row) → allSmall rows ≡ true → answer rows ≤ 8
+unfolding answer allSmall
+rows-most [] h = omega arith
+rows-most (r ∷ rows) h =
+    let b = both (leb (r .number) 8) (allSmall rows) h in
+    either-most (r .when) (r .number) (answer rows) 8 (leb-true (r .number) 8 (b .0)) (rows-most rows (b .1))
+
+pub answer-most : (p : Parsed) → answerOf p < 10000
+unfolding answerOf requestAnswer sealAnswer openAnswer sealRows openRows allSmall
+answer-most (asked q) =
+    omega (
+      arith,
+      either-most (q .seals) _ _ 8
+          (rows-most (sealRows (q .set) (q .key) (q .nonce) (q .header) (q .text) (room q)) refl)
+          (rows-most (openRows (q .set) (q .key) (q .nonce) (q .header) (q .text) (room q)) refl),
+    )
+answer-most malformed = omega arith
+
+pub answered : (n k : ℕ) (s b d out : List ℕ) (r : Reply) → Replies (parse s) r b → Puts (lineText n (r .answer) (take (r .length) b)) k d out →
+    Answers n s (record { set = r .set; written = k }) d out
+unfolding lineFor
+answered n k s b d out r p w =
+    record { set-is = p .set-is; line-is = rw (p .answer-is, p .result-is) at w }

@@ -1,0 +1,122 @@
+// What a line is answered.
+use crate::line::put_line;
+use hub_text::Asked;
+use hub_text::read_line;
+use hub_text::word;
+ghost use mathlib.Core.Path.{_≡_};
+ghost use mathlib.Core.Bool.{true};
+ghost use Prim.Native.Nat.{_≤_, _<_};
+ghost use lib.ListN.{length};
+ghost use Rattle.mode.specs.Sets.{isSet};
+ghost use Rattle.cba.specs.Refusals.{setTag};
+ghost use Rattle.hub_text.specs.Lines.{parse};
+ghost use Rattle.hub_text.specs.Requests.{requestOf};
+ghost use Rattle.hub_answer.specs.Replies.{InOrder, resultBytes, Sized, Called, Refused, Replies, Answers};
+
+// The answer to a line, the set if it is accepted, else 0, and how many bytes its result has.
+pub struct Reply {
+    pub answer: u32,
+    pub set: u32,
+    pub length: usize,
+}
+
+// The set of an accepted line, else 0, and how many bytes its line of output has.
+pub struct Answer {
+    pub set: u32,
+    pub written: usize,
+}
+
+// The plain call that a request asks for, with result as its output.
+fn call(a: Asked, bytes: &[u8], result: &mut [u8]) -> u32
+    requires { ⌜ InOrder a (now bytes) ⌝ }
+    ensures { λ r. ⌜ Called (requestOf a (now (bytes .entry))) (now (result .entry)) r (now (result .exit)) ⌝ }
+{
+    let key = word(bytes, 0, a.key);
+    let nonce = word(bytes, a.key, a.nonce);
+    let header = word(bytes, a.nonce, a.header);
+    let text = word(bytes, a.header, a.text);
+    if a.seals {
+        return cba::cba_seal(a.set, key, nonce, header, text, result);
+    }
+    cba::cba_open(a.set, key, nonce, header, text, result)
+}
+
+// How many bytes a set's tag has.
+fn set_tag(set: u32) -> usize
+    requires { ⌜ isSet set ≡ true ⌝ }
+    ensures { λ r. ⌜ r ≡ setTag set ⌝ }
+{
+    let cba::Set::Known(p) = cba::lookup(set) else {
+        return 0;
+    };
+    sealing::tag_bytes(p.tag)
+}
+
+// How many bytes an accepted request's result has, by how many its text has.
+fn result_bytes(seals: bool, set: u32, text: usize) -> usize
+    requires { ⌜ Sized seals set text ⌝ }
+    requires { ⌜ text ≤ 2048 ⌝ }
+    ensures { λ r. ⌜ r ≡ resultBytes seals set text ⌝ }
+{
+    let t = set_tag(set);
+    if seals {
+        return text + t;
+    }
+    text - t
+}
+
+// A reply without a result.
+fn refused(answer: u32) -> Reply
+    ensures { λ r. ⌜ Refused answer r ⌝ }
+{
+    Reply {
+        answer: answer,
+        set: 0,
+        length: 0,
+    }
+}
+
+fn malformed() -> Reply
+    ensures { λ r. ⌜ Refused 11 r ⌝ }
+{
+    refused(11)
+}
+
+// The answer to a line of any length, its result over the first bytes of result.
+fn reply_to(line: &[u8], result: &mut [u8]) -> Reply
+    requires { ⌜ 2064 ≤ length (now result) ⌝ }
+    ensures { λ r. ⌜ Replies (parse (now (line .entry))) r (now (result .exit)) ⌝ }
+{
+    if line.len() > 4096 {
+        return malformed();
+    }
+    let mut bytes = [0u8; 2048];
+    let a = read_line(line, &mut bytes);
+    if !a.good {
+        return malformed();
+    }
+    let answer = call(a, &bytes, result);
+    if answer != 0 {
+        return refused(answer);
+    }
+    Reply {
+        answer: 0,
+        set: a.set,
+        length: result_bytes(a.seals, a.set, a.text - a.header),
+    }
+}
+
+// Answers a line, the n-th after the first: its line of output over the first bytes of out.
+pub fn answer_line(n: u32, line: &[u8], out: &mut [u8]) -> Answer
+    requires { ⌜ (n < 10000) × (4200 ≤ length (now out)) ⌝ }
+    ensures { λ r. ⌜ Answers n (now (line .entry)) r (now (out .entry)) (now (out .exit)) ⌝ }
+{
+    let mut result = [0u8; 2064];
+    let r = reply_to(line, &mut result);
+    let length = r.length;
+    let written = put_line(n, r.answer, &result[..length], out);
+    Answer {
+        set: r.set,
+        written: written,
+    }
+}

@@ -1,0 +1,261 @@
+-- A chunk up to the end of its first line, and chunk after chunk.
+-- Assumes nothing.
+use mathlib.Core.Path.{_≡_, refl, sym, ap, ap₂, subst, _∙_}
+use mathlib.Core.Bool.{Bool, true, false, cond}
+use mathlib.Core.List.{List, [], _∷_, _++_, append-assoc, append-nil}
+use Prim.Native.Nat.{ℕ, suc, _+_, _-_, _<_, _≤_, min}
+use native.Mathlib.Omega.{arith}
+use borrow.Author.Tests.{eqb-true}
+use lib.Dec.{eqb}
+use lib.ListN.{length, take, drop, length-append, length-take, length-drop, take-append-drop}
+use lib.Seq.{take-all, take-at, take-add}
+use mathlib.Core.Logic.{⊎-elim}
+use Rattle.mode.proofs.FormLaws.{le-or-lt}
+use Rattle.hub_answer.proofs.LineLaws.{middle-length, puts-then}
+use Rattle.sealing.proofs.TailLaws.{to-end}
+use Rattle.octets.proofs.Parts.{put-at}
+use Rattle.hub_text.specs.Lines.{lengthBefore}
+use Rattle.hub_text.specs.Writing.{Puts}
+use Rattle.hub_run.specs.declared.state.Hub.{Hub}
+use Rattle.hub_run.specs.declared.chunk.Fed.{Fed}
+use Rattle.hub_run.specs.Stream.{State, over, ended, endSays, longer, next, says, after, output}
+use Rattle.hub_run.specs.Values.{stateOf, Sound, Goes, Feeds}
+use Rattle.hub_run.proofs.CuttingLaws.{after-append, output-append, over-stays, kept-more}
+
+-- ---- more of the line
+
+longer-longer : (st : State) (a b : List ℕ) → longer (longer st a) b ≡ longer st (a ++ b)
+unfolding longer
+longer-longer st a b =
+    ap (λ (x : List ℕ). record { lines = st .lines; wrong = st .wrong; counts = st .counts; line = x })
+    (kept-more (st .line ++ a) b ∙ ap (take 4097) (append-assoc (st .line) a b))
+
+longer-none : (st : State) → length (st .line) ≤ 4097 → longer st [] ≡ st
+unfolding longer
+longer-none st h =
+    ap (λ (x : List ℕ). record { lines = st .lines; wrong = st .wrong; counts = st .counts; line = x })
+    (ap (take 4097) (append-nil (st .line)) ∙ take-all 4097 (st .line) h)
+
+pub longer-over : (st : State) (s : List ℕ) → over (longer st s) ≡ over st
+unfolding longer over
+longer-over st s = refl
+
+longer-most : (st : State) (s : List ℕ) → length (longer st s .line) ≤ 4097
+unfolding longer
+longer-most st s = omega (arith, length-take 4097 (st .line ++ s))
+
+next-more : (st : State) (c : ℕ) → over st ≡ false → eqb c 10 ≡ false → (next st c ≡ longer st (c ∷ [])) × (says st c ≡ [])
+unfolding next says
+next-more st c o e = rw (o, e) (refl, refl)
+
+-- a piece without LF
+pub piece : (s : List ℕ) (st : State) → over st ≡ false → length (st .line) ≤ 4097 →
+    (after st (take (lengthBefore 10 s) s) ≡ longer st (take (lengthBefore 10 s) s)) × (output st (take (lengthBefore 10 s) s) ≡ [])
+unfolding lengthBefore after output
+piece [] st o h = (sym (longer-none st h), refl)
+piece (c ∷ s) st o h = go (eqb c 10) refl (piece s (longer st (c ∷ [])) (longer-over st (c ∷ []) ∙ o) (longer-most st (c ∷ [])))
+  where
+    go : (b : Bool) → eqb c 10 ≡ b →
+        (after (longer st (c ∷ [])) (take (lengthBefore 10 s) s) ≡ longer (longer st (c ∷ [])) (take (lengthBefore 10 s) s)) × (output (longer st (c ∷ [])) (take (lengthBefore 10 s) s) ≡ []) →
+        (after st (take (cond b 0 (suc (lengthBefore 10 s))) (c ∷ s)) ≡ longer st (take (cond b 0 (suc (lengthBefore 10 s))) (c ∷ s)))
+        × (output st (take (cond b 0 (suc (lengthBefore 10 s))) (c ∷ s)) ≡ [])
+    go true e ih = (sym (longer-none st h), refl)
+    go false e ih =
+        let n = next-more st c o e in
+        let p = take (lengthBefore 10 s) s in
+        (ap (λ (x : State). after x p) (n .0) ∙ ih .0 ∙ longer-longer st (c ∷ []) p, ap₂ (λ (x : List ℕ) (y : State). x ++ output y p) (n .1) (n .0) ∙ ih .1)
+
+-- a line with its LF
+with-end : (s : List ℕ) → lengthBefore 10 s < length s → take (lengthBefore 10 s + 1) s ≡ take (lengthBefore 10 s) s ++ (10 ∷ [])
+unfolding lengthBefore
+with-end [] h = absurd (omega (arith, h))
+with-end (c ∷ s) h = go (eqb c 10) refl (with-end s) h
+  where
+    go : (b : Bool) → eqb c 10 ≡ b → (lengthBefore 10 s < length s → take (lengthBefore 10 s + 1) s ≡ take (lengthBefore 10 s) s ++ (10 ∷ [])) →
+        cond b 0 (suc (lengthBefore 10 s)) < suc (length s) →
+        take (cond b 0 (suc (lengthBefore 10 s)) + 1) (c ∷ s) ≡ take (cond b 0 (suc (lengthBefore 10 s))) (c ∷ s) ++ (10 ∷ [])
+    go true e ih h = ap (λ (x : ℕ). x ∷ []) (eqb-true c 10 e)
+    go false e ih h = ap (λ (x : ℕ). take x (c ∷ s)) {x = suc (lengthBefore 10 s) + 1} {y = suc (lengthBefore 10 s + 1)} (omega arith) ∙ ap (λ (x : List ℕ). c ∷ x) (ih (omega (arith, h)))
+
+line-end : (st : State) → over st ≡ false → (after st (10 ∷ []) ≡ ended st) × (output st (10 ∷ []) ≡ endSays st)
+unfolding after output next says
+line-end st o = rw o (refl, append-nil (endSays st))
+
+pub with-line : (s : List ℕ) (st : State) → over st ≡ false → length (st .line) ≤ 4097 → lengthBefore 10 s < length s →
+    let w = longer st (take (lengthBefore 10 s) s) in
+    (after st (take (lengthBefore 10 s + 1) s) ≡ ended w) × (output st (take (lengthBefore 10 s + 1) s) ≡ endSays w)
+with-line s st o h l =
+    let p = take (lengthBefore 10 s) s in
+    let e = piece s st o h in
+    let f = line-end (longer st p) (longer-over st p ∙ o) in (
+      ap (after st) (with-end s l) ∙ after-append st p (10 ∷ []) ∙ ap (λ (x : State). after x (10 ∷ [])) (e .0) ∙ f .0,
+      ap (output st) (with-end s l) ∙ output-append st p (10 ∷ []) ∙ ap₂ (λ (x : List ℕ) (y : State). x ++ output y (10 ∷ [])) (e .1) (e .0) ∙ f .1,
+    )
+
+-- ---- what the code keeps of a piece: n bytes of it, over the buffer from the line's end on
+
+kept-piece : (a p : List ℕ) (n : ℕ) → length a ≤ 4097 → n ≡ min (length p) (4097 - length a) → a ++ take n p ≡ take 4097 (a ++ p)
+kept-piece a p n h e =
+    ⊎-elim
+    (λ (q : length p ≤ 4097 - length a).
+    ap (λ (x : List ℕ). a ++ x) (take-all n p (omega (arith, e, q))) ∙ sym (take-all 4097 (a ++ p) (omega (arith, length-append a p, h, q))))
+    (λ (q : 4097 - length a < length p).
+    sym
+    (ap (λ (x : List ℕ). take 4097 (a ++ x)) (sym (take-append-drop n p))
+    ∙ ap (take 4097) (sym (append-assoc a (take n p) (drop n p)))
+    ∙ take-at (a ++ take n p) (drop n p) 4097 (length-append a (take n p) ∙ omega (arith, length-take n p, e, q, h))))
+    (le-or-lt (length p) (4097 - length a))
+
+module _ (h : Hub) (line piece last : List ℕ) (n : ℕ) (s : Sound h line) (e : n ≡ min (length piece) (4097 - h .length)) (w : last ≡ take n piece ++ drop (length (take n piece)) (take (length line - h .length) (drop (h .length) line))) where
+  pub keeps : let line′ = take (h .length) line ++ (last ++ drop (length line - h .length) (drop (h .length) line)) in
+      let h′ : Hub = record { lines = h .lines; wrong = h .wrong; counts = h .counts; length = h .length + n } in
+      Sound h′ line′ × (stateOf h′ line′ ≡ longer (stateOf h line) piece)
+  unfolding longer
+  keeps =
+      let at = h .length in
+      let t = take n piece in
+      let a = take at line in
+      let lt : length t ≡ n = length-take n piece ∙ omega (arith, e) in
+      let la : length a ≡ at = length-take at line ∙ omega (arith, s .room, s .line-most) in
+      let line′ = a ++ (last ++ drop (length line - at) (drop at line)) in
+      let w′ : line′ ≡ (a ++ t) ++ drop (at + length t) line =
+      put-at line at t last (omega (arith, lt, e, s .room)) w ∙ sym (append-assoc a t (drop (at + length t) line)) in
+      let l : length (a ++ t) ≡ at + n = length-append a t ∙ omega (arith, la, lt) in
+      let r : length line′ ≡ length line =
+      ap length w′ ∙ length-append (a ++ t) (drop (at + length t) line) ∙ omega (arith, l, lt, length-drop (at + length t) line, e, s .room) in (
+        record {
+          room = omega (arith, r, s .room);
+          line-most = omega (arith, e, s .line-most);
+          lines-most = s .lines-most;
+          counts-most = s .counts-most;
+        },
+        ap (λ (x : List ℕ). record { lines = h .lines; wrong = h .wrong; counts = h .counts; line = x })
+            (ap (take (at + n)) w′ ∙ take-at (a ++ t) (drop (at + length t) line) (at + n) l ∙ kept-piece a piece n (omega (arith, la, s .line-most)) (e ∙ ap (λ (x : ℕ). min (length piece) (4097 - x)) (sym la))),
+      )
+
+-- ---- feeding
+
+-- a writer writes no more than it was lent
+puts-most : (s d out : List ℕ) (r : ℕ) → Puts s r d out → r ≤ length out
+puts-most s d out r p = omega (arith, p .0, ap length (p .1), length-append s (drop r d))
+
+module _ (h : Hub) (line chunk : List ℕ) (s : Sound h line) where
+  line-size : length (take (h .length) line) ≤ 4097
+  line-size = omega (arith, length-take (h .length) line, s .line-most)
+
+  pub feeds-over : (d : List ℕ) → over (stateOf h line) ≡ true → Feeds h line chunk (record { hub = h; used = length chunk; written = 0 }) line d d
+  feeds-over d o =
+      let e = over-stays (stateOf h line) o (take (length chunk) chunk) in
+      record {
+        used-most = omega arith;
+        used-some = λ p. p;
+        written-most = omega arith;
+        goes = record { sound = s; state-is = sym (e .0); said = rw (e .1) (refl, refl) };
+      }
+
+  module _ (o : over (stateOf h line) ≡ false) (n : ℕ) (b : n ≡ lengthBefore 10 chunk) (k : Hub) (line′ : List ℕ) (t : Sound k line′ × (stateOf k line′ ≡ longer (stateOf h line) (take n chunk))) where
+    pub feeds-piece : (d : List ℕ) → n ≡ length chunk → Feeds h line chunk (record { hub = k; used = n; written = 0 }) line′ d d
+    feeds-piece d l =
+        let e = piece chunk (stateOf h line) o line-size in
+        record {
+          used-most = omega (arith, l);
+          used-some = λ p. omega (arith, l, p);
+          written-most = omega arith;
+          goes = record { sound = t .0; state-is = t .1 ∙ rw b (sym (e .0)); said = rw (b, e .1) (refl, refl) };
+        }
+
+    pub feeds-line : (d out : List ℕ) (g : Hub) (r : ℕ) → length out ≡ length d → n ≤ length chunk → (n ≡ length chunk → ⊥) →
+        Goes (ended (stateOf k line′)) (endSays (stateOf k line′)) g line′ r d out → Feeds h line chunk (record { hub = g; used = n + 1; written = r }) line′ d out
+    feeds-line d out g r z m l w =
+        let e = with-line chunk (stateOf h line) o line-size (omega (arith, sym b, m, l)) in
+        let k-is : stateOf k line′ ≡ longer (stateOf h line) (take (lengthBefore 10 chunk) chunk) = t .1 ∙ ap (λ (x : ℕ). longer (stateOf h line) (take x chunk)) b in
+        record {
+          used-most = omega (arith, m, l);
+          used-some = λ p. omega arith;
+          written-most = omega (arith, puts-most (endSays (stateOf k line′)) d out r (w .said), z);
+          goes =
+              record {
+                sound = w .sound;
+                state-is = w .state-is ∙ ap ended k-is ∙ sym (e .0) ∙ ap (λ (x : ℕ). after (stateOf h line) (take (x + 1) chunk)) (sym b);
+                said = subst (λ (x : List ℕ). Puts x r d out) (ap endSays k-is ∙ sym (e .1) ∙ ap (λ (x : ℕ). output (stateOf h line) (take (x + 1) chunk)) (sym b)) (w .said);
+              };
+        }
+
+-- ---- one line of a chunk after the other: used bytes of it are used up
+
+pub record Feeding (h : Hub) (line₀ chunk d : List ℕ) (next : Hub) (used written : ℕ) (line out : List ℕ) : Type 0 where
+  pub used-most : used ≤ length chunk
+  pub written-most : written ≤ length out
+  pub same-out : length out ≡ length d
+  pub small : length d < 18446744073709551616
+  pub same-line : length line ≡ length line₀
+  -- so that a first line always goes in
+  pub none : used ≡ 0 → written ≡ 0
+  pub goes : Goes (after (stateOf h line₀) (take used chunk)) (output (stateOf h line₀) (take used chunk)) next line written d out
+
+pub feeding-none : (h : Hub) (line chunk d : List ℕ) → length d < 18446744073709551616 → Sound h line → Feeding h line chunk d h 0 0 line d
+unfolding after output
+feeding-none h line chunk d b s =
+    record {
+      used-most = omega arith;
+      written-most = omega arith;
+      same-out = refl;
+      small = b;
+      same-line = refl;
+      none = λ e. e;
+      goes = record { sound = s; state-is = refl; said = (refl, refl) };
+    }
+
+module _ {h : Hub} {line₀ chunk d : List ℕ} {next : Hub} {used written : ℕ} {line out : List ℕ} (f : Feeding h line₀ chunk d next used written line out) where
+  module _ (r : Fed) (line′ last : List ℕ) (l : length line′ ≡ length line) (m : length last ≡ length (take (length out - written) (drop written out))) (u : used < length chunk) where
+    turn : Feeds next line (drop used chunk) r line′ (take (length out - written) (drop written out)) last →
+        Feeding h line₀ chunk d (r .hub) (used + r .used) (written + r .written) line′ (take written out ++ (last ++ drop (length out - written) (drop written out)))
+    turn w =
+        let st = stateOf h line₀ in
+        let a = take used chunk in
+        let p = take (r .used) (drop used chunk) in
+        let g = w .goes in
+        let e : take (used + r .used) chunk ≡ a ++ p = take-add used (r .used) chunk in
+        let part = take (length out - written) (drop written out) in
+        let lp : length part ≡ length out - written = length-take (length out - written) (drop written out) ∙ omega (arith, length-drop written out) in
+        let whole = middle-length out last written (f .written-most) m in
+        let room : written + r .written ≤ length out = omega (arith, w .written-most, lp, f .written-most) in
+        record {
+          used-most = omega (arith, w .used-most, length-drop used chunk, u);
+          written-most = omega (arith, room, whole);
+          same-out = whole ∙ f .same-out;
+          small = f .small;
+          same-line = l ∙ f .same-line;
+          none = λ z. absurd (omega (arith, z, w .used-some (omega (arith, length-drop used chunk, u))));
+          goes =
+              record {
+                sound = g .sound;
+                state-is = g .state-is ∙ ap (λ (x : State). after x p) (f .goes .state-is) ∙ sym (after-append st a p) ∙ ap (after st) (sym e);
+                said =
+                    subst (λ (x : List ℕ). Puts x (written + r .written) d (take written out ++ (last ++ drop (length out - written) (drop written out))))
+                    (ap (λ (x : State). output st a ++ output x p) (f .goes .state-is) ∙ sym (output-append st a p) ∙ ap (output st) (sym e))
+                    (puts-then d out (output st a) (output (stateOf next line) p) last written (r .written) (f .goes .said) room (g .said));
+              };
+        }
+
+    -- the code lends the rest of the chunk by its length
+    pub feeding-turn : Feeds next line (take (length chunk - used) (drop used chunk)) r line′ (take (length out - written) (drop written out)) last →
+        Feeding h line₀ chunk d (r .hub) (used + r .used) (written + r .written) line′ (take written out ++ (last ++ drop (length out - written) (drop written out)))
+    feeding-turn w = turn (subst (λ (x : List ℕ). Feeds next line x r line′ (take (length out - written) (drop written out)) last) (to-end chunk used) w)
+
+  pub feeding-small : (r : ℕ) → r ≤ length (take (length out - written) (drop written out)) → written + r < 18446744073709551616
+  feeding-small r m = omega (arith, m, length-take (length out - written) (drop written out), length-drop written out, f .written-most, f .same-out, f .small)
+
+  pub feeding-less : (r : Fed) (line′ part last : List ℕ) → used < length chunk → Feeds next line (take (length chunk - used) (drop used chunk)) r line′ part last →
+      length chunk - (used + r .used) < length chunk - used
+  feeding-less r line′ part last u w =
+      omega (arith, u, w .used-some (omega (arith, ap length (to-end chunk used), length-drop used chunk, u)))
+
+  -- it stops where all is used up, or for want of room, but never before the first line
+  pub feeding-end : length chunk ≤ used → Feeds h line₀ chunk (record { hub = next; used = used; written = written }) line d out
+  feeding-end u = record { used-most = f .used-most; used-some = λ p. omega (arith, u, p); written-most = omega (arith, f .written-most, f .same-out); goes = f .goes }
+
+  pub feeding-full : 4200 ≤ length d → length out - written < 4200 → Feeds h line₀ chunk (record { hub = next; used = used; written = written }) line d out
+  feeding-full m q =
+      let some : 0 < used = ⊎-elim (λ (z : used ≤ 0). absurd (omega (arith, m, q, f .same-out, f .none (omega (arith, z))))) (λ (z : 0 < used). z) (le-or-lt used 0) in
+      record { used-most = f .used-most; used-some = λ p. some; written-most = omega (arith, f .written-most, f .same-out); goes = f .goes }

@@ -1,0 +1,50 @@
+-- The state as the code has it: a value and a lent buffer with the line so far.
+-- Assumes nothing.
+use mathlib.Core.Path.{_≡_}
+use mathlib.Core.Bool.{Bool}
+use mathlib.Core.List.{List}
+use Prim.Native.Nat.{ℕ, _-_, _<_, _≤_}
+use lib.ListN.{length, take, getD}
+use Rattle.hub_text.specs.Writing.{Puts}
+use Rattle.hub_run.specs.declared.state.Hub.{Hub}
+use Rattle.hub_run.specs.declared.chunk.Fed.{Fed}
+use Rattle.hub_run.specs.Stream.{State, begin, over, after, output, pending}
+
+abbrev pub stateOf : Hub → List ℕ → State
+stateOf h line = record { lines = h .lines; wrong = h .wrong; counts = h .counts; line = take (h .length) line }
+
+-- every number of a list is below n
+abbrev pub Below : List ℕ → ℕ → Type 0
+Below s n = (i : ℕ) → getD s i 0 < n
+
+-- what holds of every state that a run comes to
+pub record Sound (h : Hub) (line : List ℕ) : Type 0 where
+  pub room : 4097 ≤ length line
+  pub line-most : h .length ≤ 4097
+  pub lines-most : h .lines ≤ 10000
+  pub counts-most : (i : ℕ) → getD (h .counts) i 0 ≤ h .lines - 1
+
+-- the state before the first byte, with any buffer
+abbrev pub Begins : Hub → Type 0
+Begins h = (line : List ℕ) → 4097 ≤ length line → Sound h line × (stateOf h line ≡ begin)
+
+-- the answers of two tests, with any buffer
+abbrev pub IsOver : Hub → Bool → Type 0
+IsOver h r = (line : List ℕ) → r ≡ over (stateOf h line)
+
+abbrev pub IsPending : Hub → Bool → Type 0
+IsPending h r = (line : List ℕ) → Sound h line → r ≡ pending (stateOf h line)
+
+-- a step to the state st: h and line are it, and s is said, r bytes over the first of d, which gives out
+pub record Goes (st : State) (s : List ℕ) (h : Hub) (line : List ℕ) (r : ℕ) (d out : List ℕ) : Type 0 where
+  pub sound : Sound h line
+  pub state-is : stateOf h line ≡ st
+  pub said : Puts s r d out
+
+-- what feeding a chunk promises: r says how much of it is used up, s; and where it has a byte, one at least is
+pub record Feeds (h : Hub) (line chunk : List ℕ) (r : Fed) (line′ d out : List ℕ) : Type 0 where
+  pub used-most : r .used ≤ length chunk
+  pub used-some : 0 < length chunk → 0 < r .used
+  pub written-most : r .written ≤ length d
+  pub goes : let s = take (r .used) chunk in
+      Goes (after (stateOf h line) s) (output (stateOf h line) s) (r .hub) line′ (r .written) d out

@@ -1,0 +1,75 @@
+// The end of the input.
+use crate::line::Step;
+use crate::line::end_line;
+use crate::state::Hub;
+use crate::state::is_over;
+use crate::summary::put_rows;
+ghost use mathlib.Core.Path.{_≡_};
+ghost use mathlib.Core.Bool.{false};
+ghost use Prim.Native.Nat.{_≤_};
+ghost use lib.ListN.{length};
+ghost use Rattle.hub_text.specs.Writing.{Puts};
+ghost use Rattle.hub_run.specs.Whole.{summaryHead};
+ghost use Rattle.hub_run.specs.Stream.{over, ended, endSays, summary, ending};
+ghost use Rattle.hub_run.specs.Values.{Sound, IsPending, Goes, stateOf};
+
+// Whether the input ended within a line, or without a first line.
+fn is_pending(h: Hub) -> bool
+    ensures { λ r. ⌜ IsPending h r ⌝ }
+{
+    if is_over(h) {
+        return false;
+    }
+    if h.lines == 0 {
+        return true;
+    }
+    h.length != 0
+}
+
+// What the summary begins with.
+fn put_head(out: &mut [u8]) -> usize
+    requires { ⌜ 13 ≤ length (now out) ⌝ }
+    ensures { λ r. ⌜ Puts summaryHead r (now (out .entry)) (now (out .exit)) ⌝ }
+{
+    octets::put(out, b"set accepted\n");
+    13
+}
+
+// The summary, or nothing where the first line was wrong.
+fn put_summary(h: Hub, line: &[u8], out: &mut [u8]) -> usize
+    requires { ⌜ 113 ≤ length (now out) ⌝ }
+    requires { ⌜ Sound h (now line) ⌝ }
+    ensures { λ r. ⌜ (r ≤ 113) × Puts (summary (stateOf h (now (line .entry)))) r (now (out .entry)) (now (out .exit)) ⌝ }
+{
+    if h.wrong {
+        return 0;
+    }
+    let counts = h.counts;
+    let at = put_head(out);
+    at + put_rows(counts, &mut out[at..])
+}
+
+// The end of a last line, with room left for the summary.
+fn end_last(h: Hub, line: &[u8], out: &mut [u8]) -> Step
+    requires { ⌜ over (stateOf h (now line)) ≡ false ⌝ }
+    requires { ⌜ 4200 ≤ length (now out) ⌝ }
+    requires { ⌜ Sound h (now line) ⌝ }
+    ensures { λ r. ⌜ (r .written ≤ 4200) × Goes (ended (stateOf h (now (line .entry)))) (endSays (stateOf h (now (line .entry)))) (r .hub) (now (line .entry)) (r .written) (now (out .entry)) (now (out .exit)) ⌝ }
+{
+    end_line(h, line, &mut out[..4200])
+}
+
+// What is said at the end of the input.
+pub fn finish(h: Hub, line: &[u8], out: &mut [u8]) -> usize
+    requires { ⌜ 4400 ≤ length (now out) ⌝ }
+    requires { ⌜ Sound h (now line) ⌝ }
+    ensures { λ r. ⌜ (r ≤ 4400) × Puts (ending (stateOf h (now (line .entry)))) r (now (out .entry)) (now (out .exit)) ⌝ }
+{
+    if !is_pending(h) {
+        return put_summary(h, line, out);
+    }
+    let s = end_last(h, line, out);
+    let last = s.hub;
+    let at = s.written;
+    at + put_summary(last, line, &mut out[at..])
+}
