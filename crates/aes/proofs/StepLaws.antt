@@ -1,15 +1,15 @@
 -- Each transformation takes a block of 16 bytes to one, and is undone by its inverse.
 -- Assumes nothing.
-use mathlib.Core.Path.{_≡_, sym, ap, _∙_}
+use mathlib.Core.Path.{_≡_, refl, sym, ap, subst, _∙_}
 use mathlib.Core.List.{List}
 use Prim.Native.Nat.{ℕ, zero, suc, _+_, _-_, _*_, _/_, _%_, _<_, _≤_}
 use native.Mathlib.Omega.{arith}
 use lib.Bits.{bitXor}
-use lib.ListN.{length, getD, drop}
+use lib.ListN.{length, getD, set, drop}
 use Rattle.octets.specs.Strings.{Bytes, Octets, table}
 use Rattle.octets.specs.Xor.{xors}
 use Rattle.octets.specs.Blocks.{block}
-use Rattle.octets.proofs.Strings.{bytes-take, bytes-drop, getD-table}
+use Rattle.octets.proofs.Strings.{bytes-take, bytes-drop, getD-table, Filled, fill-value}
 use Rattle.octets.proofs.Xor.{length-xors, bytes-xors, xors-comm, xors-cancel, xors-part}
 use Rattle.octets.proofs.Blocks.{length-block}
 use Rattle.field.specs.Field.{dot}
@@ -193,3 +193,31 @@ dot-same p q u v e f g h = rw (e, f, g, h)
 pub addRoundKey-table : (w : List ℕ) (n : ℕ) (s : List ℕ) → length s ≡ 16 → 16 * suc n ≤ length w → table (λ i. bitXor (getD s i 0) (getD w (16 * n + i) 0)) 16 ≡ addRoundKey w n s
 unfolding addRoundKey
 addRoundKey-table w n s e h = xors-part 16 (16 * n) s w e (omega arith)
+
+-- ---- a column a turn
+
+under-is : (s : List ℕ) (n j t : ℕ) → n / 4 * 4 + (n + j) % 4 ≡ t → getD s t 0 ≡ under s n j
+unfolding under
+under-is s n j t e = ap (λ (k : ℕ). getD s k 0) (sym e)
+
+-- the rule by which a matrix fills the State
+abbrev pub times : ℕ → ℕ → ℕ → ℕ → List ℕ → ℕ → ℕ
+times p q u v s i = dot p q u v (getD s i 0) (under s i 1) (under s i 2) (under s i 3)
+
+-- the four rows of column i, one after the other
+pub column-turn : (p q u v : ℕ) (s : List ℕ) {d r : List ℕ} (i : ℕ) → Filled (times p q u v s) 16 d (4 * i) r → i < 4 → {x y z w : ℕ} →
+    x ≡ dot p q u v (getD s (4 * i) 0) (getD s (4 * i + 1) 0) (getD s (4 * i + 2) 0) (getD s (4 * i + 3) 0) →
+    y ≡ dot p q u v (getD s (4 * i + 1) 0) (getD s (4 * i + 2) 0) (getD s (4 * i + 3) 0) (getD s (4 * i) 0) →
+    z ≡ dot p q u v (getD s (4 * i + 2) 0) (getD s (4 * i + 3) 0) (getD s (4 * i) 0) (getD s (4 * i + 1) 0) →
+    w ≡ dot p q u v (getD s (4 * i + 3) 0) (getD s (4 * i) 0) (getD s (4 * i + 1) 0) (getD s (4 * i + 2) 0) →
+    Filled (times p q u v s) 16 d (4 * (i + 1)) (set (set (set (set r (4 * i) x) (4 * i + 1) y) (4 * i + 2) z) (4 * i + 3) w)
+column-turn p q u v s {d} {r} i f h ex ey ez ew =
+    let is = under-is s in
+    let f₁ = fill-value f (omega arith) (ex ∙ dot-same p q u v refl (is (4 * i) 1 (4 * i + 1) (omega arith)) (is (4 * i) 2 (4 * i + 2) (omega arith)) (is (4 * i) 3 (4 * i + 3) (omega arith))) in
+    let f₂ = fill-value f₁ (omega arith) (ey ∙ dot-same p q u v refl (is (4 * i + 1) 1 (4 * i + 2) (omega arith)) (is (4 * i + 1) 2 (4 * i + 3) (omega arith)) (is (4 * i + 1) 3 (4 * i) (omega arith))) in
+    let f₃ = fill-value (next f₂ (omega arith)) (omega arith) (ez ∙ dot-same p q u v refl (is (4 * i + 2) 1 (4 * i + 3) (omega arith)) (is (4 * i + 2) 2 (4 * i) (omega arith)) (is (4 * i + 2) 3 (4 * i + 1) (omega arith))) in
+    let f₄ = fill-value (next f₃ (omega arith)) (omega arith) (ew ∙ dot-same p q u v refl (is (4 * i + 3) 1 (4 * i) (omega arith)) (is (4 * i + 3) 2 (4 * i + 1) (omega arith)) (is (4 * i + 3) 3 (4 * i + 2) (omega arith))) in
+    next f₄ (omega arith)
+  where
+    next : {m n : ℕ} {t : List ℕ} → Filled (times p q u v s) 16 d m t → m ≡ n → Filled (times p q u v s) 16 d n t
+    next {t = t} g e = subst (λ (k : ℕ). Filled (times p q u v s) 16 d k t) e g

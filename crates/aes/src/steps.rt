@@ -4,7 +4,6 @@ ghost use mathlib.Core.Path.{_≡_};
 ghost use Prim.Native.Nat.{_*_, _%_, _≤_, _<_, suc};
 ghost use lib.ListN.{length, getD};
 ghost use Rattle.octets.specs.Strings.{table};
-ghost use Rattle.aes.specs.State.{under};
 ghost use Rattle.aes.specs.Steps.{substituted, shiftRows, mixColumns, addRoundKey, invShiftRows, invMixColumns};
 
 // SubBytes or InvSubBytes, by the table that is lent.
@@ -49,51 +48,41 @@ pub fn inv_shift_rows(s: [u8; 16]) -> [u8; 16]
     permute(s, 13)
 }
 
-// The four bytes of a column, from one of its rows on and round.
-struct Column {
-    a: u8,
-    b: u8,
-    c: u8,
-    d: u8,
-}
-
-// The column of byte i, from byte i on.
-fn column_of(s: [u8; 16], i: usize) -> Column
-    requires { ⌜ i < 16 ⌝ }
-    ensures { λ r. ⌜ (r .a ≡ getD s i 0) × (r .b ≡ under s i 1) × (r .c ≡ under s i 2) × (r .d ≡ under s i 3) ⌝ }
-{
-    let top = i / 4 * 4;
-    Column {
-        a: s[i],
-        b: s[top + (i + 1) % 4],
-        c: s[top + (i + 2) % 4],
-        d: s[top + (i + 3) % 4],
-    }
-}
-
-// MixColumns.
+// MixColumns, a column a turn.
 pub fn mix_columns(s: [u8; 16]) -> [u8; 16]
     ensures { λ r. ⌜ r ≡ mixColumns s ⌝ }
 {
     let mut r = [0u8; 16];
     let mut i = 0;
-    while i < 16 {
-        let k = column_of(s, i);
-        r[i] = field::mix_row(k.a, k.b, k.c, k.d);
+    while i < 4 {
+        let a = s[4 * i];
+        let b = s[4 * i + 1];
+        let c = s[4 * i + 2];
+        let d = s[4 * i + 3];
+        r[4 * i] = field::mix_row(a, b, c, d);
+        r[4 * i + 1] = field::mix_row(b, c, d, a);
+        r[4 * i + 2] = field::mix_row(c, d, a, b);
+        r[4 * i + 3] = field::mix_row(d, a, b, c);
         i += 1;
     }
     r
 }
 
-// InvMixColumns.
+// InvMixColumns, a column a turn.
 pub fn inv_mix_columns(s: [u8; 16]) -> [u8; 16]
     ensures { λ r. ⌜ r ≡ invMixColumns s ⌝ }
 {
     let mut r = [0u8; 16];
     let mut i = 0;
-    while i < 16 {
-        let k = column_of(s, i);
-        r[i] = field::inv_mix_row(k.a, k.b, k.c, k.d);
+    while i < 4 {
+        let a = s[4 * i];
+        let b = s[4 * i + 1];
+        let c = s[4 * i + 2];
+        let d = s[4 * i + 3];
+        r[4 * i] = field::inv_mix_row(a, b, c, d);
+        r[4 * i + 1] = field::inv_mix_row(b, c, d, a);
+        r[4 * i + 2] = field::inv_mix_row(c, d, a, b);
+        r[4 * i + 3] = field::inv_mix_row(d, a, b, c);
         i += 1;
     }
     r

@@ -1,34 +1,30 @@
--- `aes::steps::mix_columns` meets its contract: after i turns the first i bytes are rows of the matrix times their columns.
+-- `aes::steps::mix_columns` meets its contract: after i turns the first i columns are the matrix times those of s.
 -- Assumes nothing.
 use mathlib.Core.Path.{refl, _∙_}
-use Prim.Native.Nat.{_-_}
-use lib.ListN.{getD}
+use Prim.Native.Nat.{_-_, _*_}
+use native.Mathlib.Omega.{arith}
 use borrow.Author.Needs.{needs}
-use Rattle.octets.proofs.Strings.{Filled, fill-none, fill-value, filled-whole}
-use Rattle.field.specs.Field.{dot}
-use Rattle.aes.specs.State.{under}
+use Rattle.octets.proofs.Strings.{Filled, fill-none, filled-whole}
 use Rattle.aes.specs.Steps.{mixColumns}
-use Rattle.aes.proofs.StepLaws.{dot-same, timesMatrix-table}
+use Rattle.aes.proofs.StepLaws.{times, column-turn, timesMatrix-table}
 use Rattle.aes.proofs.steps.mix_columns.Statement.{statement}
 use Rattle.aes.proofs.steps.mix_columns.Tie as tie
 
 abbrev Inv-loop : tie.InvT-loop
-Inv-loop s r₀ i₀ r i = Filled (λ k. dot 2 3 1 1 (getD s k 0) (under s k 1) (under s k 2) (under s k 3)) 16 r₀ i r
+Inv-loop s r₀ i₀ r i = Filled (times 2 3 1 1 s) 16 r₀ (4 * i) r
 
 abbrev μ-loop : tie.MeasureT-loop
-μ-loop s r₀ i₀ r i = 16 - i
+μ-loop s r₀ i₀ r i = 4 - i
 
 again : tie.Need-loop-again Inv-loop μ-loop
 again c =
-    let k = c .before .column-of .ensures in
-    fill-value
-    (c .before .before .before .loop .inv)
-    (c .before .before .loop-test .taken)
-    (c .mix-row .ensures ∙ dot-same 2 3 1 1 (k .0) (k .1) (k .2) (k .3))
+    let turn = c .before .before .before .before .before in
+    column-turn 2 3 1 1 (turn .before .args .t1) (turn .loop .i) (turn .loop .inv) (c .before .before .before .before .loop-test .taken)
+    (c .before .before .before .mix-row .ensures) (c .before .before .mix-row2 .ensures) (c .before .mix-row3 .ensures) (c .mix-row4 .ensures)
 
 returns : tie.Need-returns Inv-loop μ-loop
 unfolding mixColumns
-returns c = filled-whole (c .before .loop .inv) (c .loop-test .left) refl ∙ timesMatrix-table 2 3 1 1 _
+returns c = filled-whole (c .before .loop .inv) (omega (arith, c .loop-test .left)) refl ∙ timesMatrix-table 2 3 1 1 _
 
 pub mix-columns-spec : {M : Type 1} → statement M
 mix-columns-spec =
@@ -37,8 +33,31 @@ mix-columns-spec =
     Inv-loop
     μ-loop
     (λ c. fill-none _ _ _ (search needs))
+    (λ c. search needs)
+    (λ c. search needs)
+    (λ c. search needs)
+    (λ c. search needs)
+    (λ c. search needs)
+    (λ c. search needs)
+    (λ c. search needs)
+    (λ c. search needs)
+    (λ c. search needs)
+    (λ c. search needs)
+    (λ c. search needs)
     (λ c κs. search needs)
+    (λ c. search needs)
+    (λ c. search needs)
     (λ c κs. search needs)
+    (λ c. search needs)
+    (λ c. search needs)
+    (λ c. search needs)
+    (λ c κs. search needs)
+    (λ c. search needs)
+    (λ c. search needs)
+    (λ c. search needs)
+    (λ c κs. search needs)
+    (λ c. search needs)
+    (λ c. search needs)
     (λ c. search needs)
     (λ c. search needs)
     (λ c. search needs)

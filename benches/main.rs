@@ -1,0 +1,76 @@
+//! Measures sealing and opening; ./bench builds and starts it.
+//!
+//!     bench time PLAN                            the table of times
+//!     bench hardware PLAN                        the second process of `time`
+//!     bench calls CANDIDATE ACT SET SIZE COUNT   so many calls, for valgrind to count
+
+#[path = "../tests/random.rs"]
+mod random;
+
+mod boxes;
+mod candidates;
+mod cases;
+mod checks;
+mod job;
+mod nettle;
+mod ocb;
+mod report;
+mod tables;
+mod timing;
+mod us;
+mod worker;
+
+use candidates::CANDIDATES;
+use cases::{Case, Plan, ACTS, PLANS, SETS};
+use job::Job;
+
+fn plan(name: &str) -> Option<&'static Plan> {
+    PLANS.iter().find(|plan| plan.name == name)
+}
+
+fn time(name: &str) -> Option<()> {
+    let plan = plan(name)?;
+    ocb::start(false);
+    checks::run();
+    let (cells, features) = timing::measure(plan);
+    report::print(plan, &cells, &features);
+    Some(())
+}
+
+fn hardware(name: &str) -> Option<()> {
+    let plan = plan(name)?;
+    ocb::start(true);
+    worker::serve(plan);
+    Some(())
+}
+
+fn calls([candidate, act, set, size, count]: [&str; 5]) -> Option<()> {
+    let candidate = CANDIDATES.iter().find(|c| c.name == candidate)?;
+    let number: u32 = set.parse().ok()?;
+    let case = Case {
+        act: ACTS.iter().find(|(name, _)| *name == act)?.1,
+        set: *SETS.iter().find(|s| s.number == number)?,
+        size: size.parse().ok()?,
+    };
+    ocb::start(false);
+    checks::is_plain();
+    let mut job = Job::new(candidate, &case);
+    job.run(count.parse().ok()?);
+    job.check();
+    Some(())
+}
+
+fn main() {
+    let args: Vec<String> = std::env::args().skip(1).collect();
+    let words: Vec<&str> = args.iter().map(|a| a.as_str()).collect();
+    let done = match words[..] {
+        ["time", plan] => time(plan),
+        ["hardware", plan] => hardware(plan),
+        ["calls", a, b, c, d, e] => calls([a, b, c, d, e]),
+        _ => None,
+    };
+    if done.is_none() {
+        eprintln!("bench: started by ./bench");
+        std::process::exit(2);
+    }
+}
