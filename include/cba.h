@@ -1,4 +1,7 @@
-/* CBA v1-1 over AES: authenticated encryption of one record. */
+/* CBA v1-1 over AES: authenticated encryption of one record.
+
+   cba_seal makes a ciphertext of a message. cba_open gives the message back, or refuses. Both are in libcba.a,
+   for Linux on x86-64, which needs memcpy and memset of the C library and nothing else. */
 #ifndef CBA_H
 #define CBA_H
 
@@ -9,19 +12,37 @@
 extern "C" {
 #endif
 
-/* The parameter sets; lengths in bytes.
+/* The parameter sets; key and tag in bytes, the capacity as a power of 2.
 
        set        1   2   3   4   5   6   7   8   9  10
        key       16  16  16  16  16  16  16  16  24  32
        tag        4   4   8   8   8  12  12  12   8  12
        capacity  16  32  16  32  48  16  32  48  32  48
 
-   A ciphertext is as long as its message and the set's tag together.
+   The limits of all sets: a nonce has 12 bytes, data have at most 4,096, a message has at most 65,536. A
+   ciphertext is as long as its message and the set's tag together. Of all strings of its length one in 256 to
+   the tag opens: a guess at random opens with that chance. */
 
-   A sealing uses ceil(data_len / 16) + ceil(text_len / 16) blocks. All sealings under one key use at most
-   2 to the capacity; the caller counts. */
+/* What the caller sees to, and no call can check:
 
-/* Answers: the first that applies, from 1 up; 0 where none does. */
+   The key is random and secret. Set and key are known to the one who opens, and not taken from the record.
+
+   A nonce is never used twice to seal under one key. It need be neither random nor secret: a count will do.
+   Whoever sees two ciphertexts under one key and nonce learns where blocks of 16 bytes of their messages are the
+   same and the exclusive or of some others of their bytes, and may be able to make a ciphertext that opens.
+
+   All sealings under one key use at most 2 to the capacity of blocks. One uses ceil(data_len / 16) +
+   ceil(text_len / 16). These calls do not count; a ledger does (crates/ledger, for callers in Rattle).
+
+   Each pointer is to as many bytes as its length says. Where that is 0 the pointer is not used, and may be NULL
+   or any other. out must not overlap an input, so that nothing is sealed or opened in place; inputs may overlap
+   each other. */
+
+/* The answers. They are looked for from 1 up, and the first that applies is given; 0 where none does.
+
+   CBA_OK: the result is in the first bytes of out, and the bytes after it are as before. CBA_FALSE: as many bytes
+   as the message would have are 0 in out, and the bytes after them are as before. Any other answer: all of out is
+   as before. No input is ever changed. */
 enum cba_answer {
     CBA_OK = 0,     /* sealed, or opened */
     CBA_SET = 1,    /* set is not 1 to 10 */
@@ -34,8 +55,14 @@ enum cba_answer {
     CBA_FALSE = 8   /* opening: no message seals to this ciphertext under this set, key, nonce and data */
 };
 
-/* In both calls each pointer is to as many bytes as its length says; where that is 0 it may be NULL. out must
-   not overlap an input, and may be longer than the result. */
+/* The calls have no state and use no heap: any number of threads may call at once.
+
+   Proved, for every input: the answer, the result and every byte of out; that sealing is CBA v1-1's ENC over AES,
+   and opening its DEC; that no call reads or writes outside its arguments, or runs for ever.
+
+   Not proved: that CBA is hard to break; how long a call takes (AES's tables are read at places that depend on the
+   key, so that the time may tell of it); that nothing of a key is left on the stack; the compiler's back end; that
+   a caller's pointers are right. */
 
 /* Seals a message.
 
@@ -44,12 +71,9 @@ enum cba_answer {
    nonce  12 bytes; never the same twice under a key
    data   associated data, at most 4,096 bytes: authenticated, not encrypted and not in the result
    text   the message, at most 65,536 bytes
-   out    for the ciphertext: text_len bytes and the tag's
+   out    for the ciphertext: text_len bytes and the tag's; it may be longer
 
-   Answers CBA_OK, and CBA_SET to CBA_TEXT or CBA_BUFFER.
-
-   CBA_OK: the ciphertext is in the first bytes of out, and the bytes after it are as before. Any other
-   answer: out is as before. */
+   Answers CBA_OK, CBA_SET to CBA_TEXT, or CBA_BUFFER. */
 uint32_t cba_seal(uint32_t set,
                   const uint8_t *key, size_t key_len,
                   const uint8_t *nonce, size_t nonce_len,
@@ -62,15 +86,10 @@ uint32_t cba_seal(uint32_t set,
    set, key, nonce, data
           those of the sealing
    text   the ciphertext: at least the tag's bytes, at most 65,536 more
-   out    for the message: text_len bytes less the tag's
+   out    for the message: text_len bytes less the tag's; it may be longer
 
-   Answers CBA_OK, and CBA_SET to CBA_FALSE.
-
-   CBA_OK: the message is in the first bytes of out, and the bytes after it are as before. It is the one
-   message that seals to this ciphertext.
-   CBA_FALSE: the ciphertext, or another input, is not what it was at the sealing. As many bytes as the message
-   would have are 0 in out, and the bytes after them are as before.
-   Any other answer: out is as before. */
+   Answers CBA_OK, or CBA_SET to CBA_FALSE. After CBA_OK the message is the one that seals to this ciphertext.
+   CBA_FALSE says that the ciphertext, or another input, is not what it was at the sealing. */
 uint32_t cba_open(uint32_t set,
                   const uint8_t *key, size_t key_len,
                   const uint8_t *nonce, size_t nonce_len,
