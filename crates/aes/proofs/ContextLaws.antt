@@ -11,9 +11,18 @@ use lib.Seq.{take-at, drop-at, drop-drop}
 use Rattle.octets.specs.Strings.{table}
 use Rattle.octets.proofs.Strings.{length-table}
 use Rattle.octets.proofs.Parts.{put-more}
-use Rattle.field.specs.SBox.{sBox, invSBox}
+use Rattle.field.specs.SBox.{invSBox}
+use Rattle.field.specs.Round.{entry, inverseEntry, entries, tables}
+use Rattle.field.proofs.RoundLaws.{length-entry, length-inverseEntry, length-entries}
 use Rattle.aes.specs.Schedule.{isKey, keyExpansion}
-use Rattle.aes.specs.Context.{contextOf, keyed, answer, answered}
+use Rattle.aes.specs.Words.{Entries}
+use Rattle.aes.proofs.WordLaws.{table-entries}
+use Rattle.aes.specs.Context.{blankContext, contextOf, keyed, answer, answered}
+
+length-tables : length tables ≡ 4096
+length-tables =
+    length-append (entries entry 0 256) (entries inverseEntry 0 256)
+    ∙ omega (arith, length-entries entry length-entry 0 256, length-entries inverseEntry length-inverseEntry 0 256)
 
 drop-replicate : (k n x : ℕ) → drop k (replicate n x) ≡ replicate (n - k) x
 drop-replicate zero n x = rw sub-zero refl
@@ -24,34 +33,58 @@ drop-replicate (suc k) (suc n) x = drop-replicate k n x ∙ ap (λ (m : ℕ). re
 abbrev pub back : List ℕ → ℕ → List ℕ → List ℕ
 back out at last = take at out ++ (last ++ drop (length out - at) (drop at out))
 
--- there is room for every schedule
-pub schedule-room : (l : List ℕ) → length l ≡ 752 → length (take (length l - 512) (drop 512 l)) ≡ 240
-schedule-room l h = simp (length-take, length-drop) (omega arith)
+-- what was lent of it
+abbrev pub lent : List ℕ → ℕ → List ℕ
+lent out at = take (length out - at) (drop at out)
 
--- the two tables and the schedule, each put after the other over zeros
-pub all-put : (key s t ctx l last last′ : List ℕ) → s ≡ table sBox 256 → t ≡ table invSBox 256 → ctx ≡ replicate 752 0 →
-    l ≡ s ++ drop (length s) ctx → length l ≡ 752 →
-    last ≡ t ++ drop (length t) (take (length l - 256) (drop 256 l)) → length (back l 256 last) ≡ 752 →
-    last′ ≡ keyExpansion key ++ drop (length (keyExpansion key)) (take (length (back l 256 last) - 512) (drop 512 (back l 256 last))) →
-    length last′ ≡ length (take (length (back l 256 last) - 512) (drop 512 (back l 256 last))) →
-    back (back l 256 last) 512 last′ ≡ contextOf key
+pub length-lent : (out : List ℕ) (at : ℕ) → length (lent out at) ≡ length out - at
+length-lent out at = simp (length-take, length-drop) (omega arith)
+
+-- out is d with e, of at bytes, written over its start
+record Begun (d e : List ℕ) (at : ℕ) (out : List ℕ) : Type 0 where
+  so-far : out ≡ e ++ drop (length e) d
+  size : length e ≡ at
+  fits : at ≤ length d
+
+begun-long : {d e : List ℕ} {at : ℕ} {out : List ℕ} → Begun d e at out → length out ≡ length d
+begun-long {d} {e} v = ap length (v .so-far) ∙ length-append e (drop (length e) d) ∙ simp length-drop (omega (arith, v .size, v .fits))
+
+-- and t, of n bytes, after it
+begun-put : {d e : List ℕ} {at : ℕ} {out : List ℕ} (t last : List ℕ) (n : ℕ) → Begun d e at out → length t ≡ n → at + n ≤ length d →
+    last ≡ t ++ drop n (lent out at) → Begun d (e ++ t) (at + n) (back out at last)
+begun-put {d} {e} {at} {out} t last n v l h p =
+    record {
+      so-far = put-more d e out at t last (v .so-far) (v .size) (omega (arith, begun-long v)) (rw l p);
+      size = length-append e t ∙ omega (arith, v .size);
+      fits = h;
+    }
+
+-- the inverse S-box and the schedule, one put after the other behind the round table
+pub all-put : (key t ctx l last : List ℕ) → t ≡ table invSBox 256 → ctx ≡ blankContext → length ctx ≡ 4592 →
+    l ≡ t ++ drop (length t) (lent ctx 4096) →
+    last ≡ keyExpansion key ++ drop (length (keyExpansion key)) (lent (back ctx 4096 l) 4352) →
+    length last ≡ length (lent (back ctx 4096 l) 4352) →
+    back (back ctx 4096 l) 4352 last ≡ contextOf key
 unfolding contextOf
-all-put key s t ctx l last last′ es et ez e n p n′ p′ k =
+all-put key t ctx l last et ez n p p′ k =
+    let e = tables in
     let w = keyExpansion key in
-    let ls : length s ≡ 256 = ap length es ∙ length-table sBox 256 in
-    let lt : length t ≡ 256 = ap length et ∙ length-table invSBox 256 in
-    let l₂ = back l 256 last in
-    let o : l₂ ≡ (s ++ t) ++ drop (length (s ++ t)) ctx = put-more ctx s l 256 t last e ls (omega arith) p in
-    let lst : length (s ++ t) ≡ 512 = length-append s t ∙ omega arith in
-    let part : length (take (length l₂ - 512) (drop 512 l₂)) ≡ 240 = schedule-room l₂ n′ in
-    let fits : length w ≤ 240 =
-    omega (arith, ap length p′ ∙ length-append w (drop (length w) (take (length l₂ - 512) (drop 512 l₂))), k, part) in
-    let rest : 752 - length ((s ++ t) ++ w) ≡ 240 - length w = omega (arith, length-append (s ++ t) w) in
-    put-more ctx (s ++ t) l₂ 512 w last′ o lst (omega arith) p′
-    ∙ ap (λ (z : List ℕ). ((s ++ t) ++ w) ++ z)
-    (ap (drop (length ((s ++ t) ++ w))) ez ∙ drop-replicate (length ((s ++ t) ++ w)) 752 0
-    ∙ ap (λ (m : ℕ). replicate m 0) rest)
-    ∙ rw (es, et) (simp append-assoc)
+    let out = back ctx 4096 l in
+    let size : length e ≡ 4096 = length-tables in
+    let n′ : length t ≡ 256 = ap length et ∙ length-table invSBox 256 in
+    let rest : drop (length e) ctx ≡ replicate 496 0 = ap (drop (length e)) ez ∙ drop-at e (replicate 496 0) (length e) refl in
+    let one : Begun ctx e 4096 ctx = record { so-far = ez ∙ ap (λ (s : List ℕ). e ++ s) (sym rest); size = size; fits = omega arith } in
+    let two : Begun ctx (e ++ t) 4352 out = begun-put t l 256 one n′ (omega arith) (p ∙ ap (λ (m : ℕ). t ++ drop m (lent ctx 4096)) n′) in
+    let fits : 4352 + length w ≤ length ctx =
+    omega (arith, ap length p′ ∙ length-append w (drop (length w) (lent out 4352)), k, length-lent out 4352, begun-long two) in
+    let three = begun-put w last (length w) two refl fits p′ in
+    let x = (e ++ t) ++ w in
+    let m : length x - length e ≡ 256 + length w = omega (arith, three .size) in
+    let zeros : drop (length x) ctx ≡ replicate (240 - length w) 0 =
+    ap (λ (j : ℕ). drop j ctx) {x = length x} {y = length e + (length x - length e)} (omega (arith, three .size))
+    ∙ sym (drop-drop (length x - length e) (length e) ctx) ∙ ap (drop (length x - length e)) rest ∙ drop-replicate (length x - length e) 496 0
+    ∙ ap (λ (j : ℕ). replicate j 0) {x = 496 - (length x - length e)} {y = 240 - length w} (omega arith) in
+    three .so-far ∙ rw (zeros, et) (simp append-assoc)
 
 -- a key that is good, and one that is not
 pub keyed-good : (key ctx : List ℕ) → isKey key ≡ true → keyed key ctx ≡ contextOf key
@@ -80,42 +113,58 @@ answered-bad f key s h = rw h
 
 -- ---- the parts that the rounds read
 
+-- a string that stands at a place, and what follows it
+part : (s p q : List ℕ) (at n : ℕ) → drop at s ≡ p ++ q → length p ≡ n → (take n (drop at s) ≡ p) × (drop (at + n) s ≡ q)
+part s p q at n h l = (ap (take n) h ∙ take-at p q n l, sym (drop-drop n at s) ∙ ap (drop n) h ∙ drop-at p q n l)
+
 module _ (key ctx : List ℕ) (h : ctx ≡ contextOf key) where
+  zeros : List ℕ
+  zeros = replicate (240 - length (keyExpansion key)) 0
+
   rest : List ℕ
-  rest = keyExpansion key ++ replicate (240 - length (keyExpansion key)) 0
+  rest = keyExpansion key ++ zeros
 
-  pub context-s : take 256 ctx ≡ table sBox 256
-  unfolding contextOf rest
-  context-s = ap (take 256) h ∙ take-at (table sBox 256) (table invSBox 256 ++ rest) 256 (length-table sBox 256)
+  inverse : List ℕ
+  inverse = entries inverseEntry 0 256
 
-  after-s : drop 256 ctx ≡ table invSBox 256 ++ rest
-  unfolding contextOf rest
-  after-s = ap (drop 256) h ∙ drop-at (table sBox 256) (table invSBox 256 ++ rest) 256 (length-table sBox 256)
+  at-e : (take 2048 ctx ≡ entries entry 0 256) × (drop 2048 ctx ≡ inverse ++ (table invSBox 256 ++ rest))
+  unfolding contextOf rest zeros inverse
+  at-e = part ctx (entries entry 0 256) _ 0 2048 (h ∙ append-assoc (entries entry 0 256) _ _) (length-entries entry length-entry 0 256)
 
-  pub context-i : take 256 (drop 256 ctx) ≡ table invSBox 256
-  context-i = ap (take 256) after-s ∙ take-at (table invSBox 256) rest 256 (length-table invSBox 256)
+  at-u : (take 2048 (drop 2048 ctx) ≡ inverse) × (drop 4096 ctx ≡ table invSBox 256 ++ rest)
+  unfolding inverse
+  at-u = part ctx inverse _ 2048 2048 (at-e .1) (length-entries inverseEntry length-inverseEntry 0 256)
 
-  after-i : drop 512 ctx ≡ rest
-  after-i = sym (drop-drop 256 256 ctx) ∙ ap (drop 256) after-s ∙ drop-at (table invSBox 256) rest 256 (length-table invSBox 256)
+  at-i : (take 256 (drop 4096 ctx) ≡ table invSBox 256) × (drop 4352 ctx ≡ rest)
+  at-i = part ctx (table invSBox 256) rest 4096 256 (at-u .1) (length-table invSBox 256)
 
-  pub context-w : (n : ℕ) → length (keyExpansion key) ≡ n → take n (drop 512 ctx) ≡ keyExpansion key
-  unfolding rest
-  context-w n l = ap (take n) after-i ∙ take-at (keyExpansion key) (replicate (240 - length (keyExpansion key)) 0) n l
+  pub context-e : Entries entry (take 2048 ctx)
+  context-e = table-entries entry length-entry _ (at-e .0)
 
-  pub context-long : 512 + length (keyExpansion key) ≤ length ctx
-  unfolding contextOf rest
+  pub context-u : Entries inverseEntry (take 2048 (drop 2048 ctx))
+  unfolding inverse
+  context-u = table-entries inverseEntry length-inverseEntry _ (at-u .0)
+
+  pub context-i : take 256 (drop 4096 ctx) ≡ table invSBox 256
+  context-i = at-i .0
+
+  pub context-long : 4352 + length (keyExpansion key) ≤ length ctx
+  unfolding contextOf
   context-long =
-      let e : length ctx ≡ length (table sBox 256 ++ (table invSBox 256 ++ rest)) = ap length h in
+      let r = keyExpansion key ++ replicate (240 - length (keyExpansion key)) 0 in
       omega (
         arith,
-        length-append (table sBox 256) (table invSBox 256 ++ rest),
-        length-append (table invSBox 256) rest,
+        ap length h,
+        length-append tables (table invSBox 256 ++ r),
+        length-append (table invSBox 256) r,
         length-append (keyExpansion key) (replicate (240 - length (keyExpansion key)) 0),
-        length-table sBox 256,
         length-table invSBox 256,
+        length-tables,
       )
 
   -- of a key, whose schedule has 16 (Nr + 1) bytes
   pub context-keys : length (keyExpansion key) ≡ 16 * (length key / 4 + 7) → (n : ℕ) → n ≡ length key / 4 + 6 →
-      (take (528 + 16 * n - 512) (drop 512 ctx) ≡ keyExpansion key) × (528 + 16 * n ≤ length ctx)
-  context-keys l n e = (context-w (528 + 16 * n - 512) (omega arith), omega (arith, context-long))
+      (take (4368 + 16 * n - 4352) (drop 4352 ctx) ≡ keyExpansion key) × (4368 + 16 * n ≤ length ctx)
+  unfolding rest
+  context-keys l n e =
+      (part ctx (keyExpansion key) zeros 4352 (4368 + 16 * n - 4352) (at-i .1) (omega arith) .0, omega (arith, context-long))

@@ -10,7 +10,7 @@ use Rattle.octets.specs.Strings.{Bytes, Octets}
 use Rattle.aes.specs.Schedule.{isKey, keyExpansion}
 use Rattle.aes.specs.Cipher.{cipher, invCipher, Inverses}
 use Rattle.aes.proofs.CipherLaws.{cipher-octets, invCipher-octets, invCipher-cipherOver, cipher-invCipherOver}
-use Rattle.aes.proofs.ScheduleLaws.{KeyWords, key-words, keyExpansion-octets}
+use Rattle.aes.proofs.ScheduleLaws.{key-words, keyExpansion-octets}
 
 module _ (key s : List ℕ) (b : Bytes key) (h : isKey key ≡ true) (o : Octets 16 s) where
   w : Octets (16 * (length key / 4 + 7)) (keyExpansion key)

@@ -1,5 +1,6 @@
 pub mod StateLaws
 pub mod StepLaws
+pub mod WordLaws
 pub mod ScheduleLaws
 pub mod CipherLaws
 pub mod Inverses

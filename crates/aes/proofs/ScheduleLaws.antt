@@ -1,17 +1,16 @@
 -- Laws of the key schedule, over the number of key words.
 -- Assumes nothing.
 use mathlib.Core.Path.{_≡_, refl, sym, ap, ap₂, _∙_}
-use mathlib.Core.Bool.{Bool, true, false, cond, _&&_, _||_}
-use mathlib.Core.List.{List, [], _∷_, _++_}
-use Prim.Native.Nat.{ℕ, zero, suc, _+_, _-_, _*_, _/_, _%_, _<_, _≤_, min}
-use native.Mathlib.Nat.{le-div-iff-mul-le, div-lt-iff-lt-mul}
+use mathlib.Core.Bool.{Bool, true, false, cond, _||_}
+use mathlib.Core.List.{List, _++_}
+use Prim.Native.Nat.{ℕ, zero, suc, _+_, _-_, _*_, _/_, _%_, _<_, _≤_}
+use native.Mathlib.Nat.{le-div-iff-mul-le, div-lt-iff-lt-mul, mul-le-mul, mul-div-le, mod-eq-sub-mul-div}
 use native.Mathlib.Numerals.{add-one}
 use native.Mathlib.Omega.{arith}
-use lib.Bits.{bitXor, xor-zero-r}
-use lib.Dec.{eqb, ltb}
-use lib.ListN.{length, take, drop, getD, set, length-append}
+use lib.Dec.{eqb}
+use lib.ListN.{length, take, drop, length-append}
 use borrow.Author.Tests.{eqb-true, eq-eqb, ne-eqb, lt-ltb, le-ltb}
-use Rattle.octets.specs.Strings.{Bytes, Octets, table}
+use Rattle.octets.specs.Strings.{Bytes, Octets}
 use Rattle.octets.specs.Xor.{xors}
 use Rattle.octets.specs.Blocks.{block}
 use Rattle.octets.proofs.Strings.{bytes-append, bytes-take, bytes-drop, length-table, bytes-table}
@@ -19,7 +18,9 @@ use Rattle.octets.proofs.Xor.{length-xors, bytes-xors}
 use Rattle.octets.proofs.Blocks.{length-block, block-append}
 use Rattle.octets.proofs.Parts.{drop-put, put-more}
 use Rattle.field.proofs.Rules.{xtime-byte, sBox-byte}
-use Rattle.aes.specs.Schedule.{isKey, subWord, rotWord, power, rcon, atStart, atMiddle, temp, nextWord, extend, expanded, keyExpansion}
+use Rattle.aes.specs.Words.{bytesOf}
+use Rattle.aes.proofs.WordLaws.{byte-word}
+use Rattle.aes.specs.Schedule.{isKey, subWord, rotWord, power, rcon, atStart, atMiddle, temp, nextWord, expanded, keyExpansion, Place}
 
 -- what a key's length is good for: it is a number of words, of which there are 4 to 8
 pub record KeyWords (key : List ℕ) : Type 0 where
@@ -91,10 +92,10 @@ keyExpansion-octets key b k =
 
 -- ---- the words as the code takes them
 
--- Rcon added to a word: only its first byte changes
-pub rcon-first : (t : List ℕ) (j : ℕ) → set (subWord t) 0 (bitXor (getD (subWord t) 0 0) (power (j - 1))) ≡ xors (subWord t) (rcon j)
-unfolding subWord table rcon xors
-rcon-first t j = simp xor-zero-r
+-- Rcon as a word is a power of x
+pub rcon-word : (j p : ℕ) → p ≡ power (j - 1) → bytesOf p ≡ rcon j
+unfolding rcon
+rcon-word j p e = rw e (byte-word (power (j - 1)) (power-byte (j - 1)))
 
 module _ (nk i : ℕ) (t : List ℕ) where
   pub temp-first : i % nk ≡ 0 → temp nk i t ≡ xors (subWord (rotWord t)) (rcon (i / nk))
@@ -113,9 +114,35 @@ module _ (nk i : ℕ) (t : List ℕ) where
   unfolding temp
   temp-other h p q = rw (ne-eqb (i % nk) 0 h, lt-ltb 6 nk p, ne-eqb (i % nk) 4 q)
 
+-- i / Nk by the reciprocal of Nk, for each Nk
+pub quotient-is : {nk r i : ℕ} → Place nk r i → i * r / 256 ≡ i / nk
+quotient-is {nk} {r} {i} p =
+    let n : nk ≡ 4 + (nk - 4) = omega (arith, p .least) in
+    ap (λ (k : ℕ). i * k / 256) (p .part ∙ ap (λ (k : ℕ). 255 / k + 1) n) ∙ go (nk - 4) (omega (arith, p .most)) (omega (arith, p .within, n)) ∙ ap (λ (k : ℕ). i / k) (sym n)
+  where
+    go : (d : ℕ) → d ≤ 4 → i < 11 * (4 + d) → i * (255 / (4 + d) + 1) / 256 ≡ i / (4 + d)
+    go zero h l = omega arith
+    go (suc zero) h l = omega arith
+    go (suc (suc zero)) h l = omega arith
+    go (suc (suc (suc zero))) h l = omega arith
+    go (suc (suc (suc (suc zero)))) h l = omega arith
+    go (suc (suc (suc (suc (suc d))))) h l = absurd (omega arith)
+
+pub product-small : {nk r i : ℕ} → Place nk r i → i * r ≤ 5632
+product-small {nk} p =
+    let some : 0 < nk = omega (arith, p .least) in
+    let h : 255 / nk < 64 = div-lt-iff-lt-mul some .1 (omega (arith, p .least)) in
+    mul-le-mul {n₂ = 88} {m₂ = 64} (omega (arith, p .within, p .most)) (omega (arith, p .part, h))
+
+-- what is left of i
+pub remainder-is : (nk i q : ℕ) → q ≡ i / nk → (nk * q ≤ i) × (i - nk * q ≡ i % nk)
+remainder-is nk i q e = rw e (mul-div-le i nk, sym (mod-eq-sub-mul-div i nk))
+
 -- which power of x a word i with i mod Nk = 0 takes: i / Nk is 1 to 10
-pub rcon-place : (nk i : ℕ) → 0 < nk → nk ≤ i → i < 11 * nk → (1 ≤ i / nk) × (i / nk < 11)
-rcon-place nk i p h k = (le-div-iff-mul-le p .1 (omega arith), div-lt-iff-lt-mul p .1 k)
+pub rcon-place : {nk r i : ℕ} → Place nk r i → (1 ≤ i / nk) × (i / nk < 11)
+rcon-place {nk} p =
+    let h : 0 < nk = omega (arith, p .least) in
+    (le-div-iff-mul-le h .1 (omega (arith, p .after)), div-lt-iff-lt-mul h .1 (p .within))
 
 -- the next word looks only at the words before it
 pub nextWord-append : (nk i : ℕ) (w z : List ℕ) → 0 < nk → nk ≤ i → length w ≡ 4 * i → nextWord nk i (w ++ z) ≡ nextWord nk i w
@@ -133,6 +160,10 @@ pub record Expanding (key d : List ℕ) (nk : ℕ) (w : List ℕ) (m : ℕ) : Ty
   pub long : length w ≡ length d
   pub size : length (expanded nk key m) ≡ 4 * (nk + m)
   pub so-far : w ≡ expanded nk key m ++ drop (length (expanded nk key m)) d
+
+-- the word that is written next
+pub placed : {key d : List ℕ} {nk : ℕ} {w : List ℕ} {m : ℕ} → Expanding key d nk w m → m < 3 * nk + 28 → Place nk (255 / nk + 1) (nk + m)
+placed v h = record { least = v .least; most = v .most; after = omega arith; within = omega (arith, v .least, h); part = refl }
 
 -- the key has been written
 pub expand-none : (key d w : List ℕ) → isKey key ≡ true → 240 ≤ length d → length w ≡ length d → w ≡ key ++ drop (length key) d → Expanding key w (length key / 4) w 0

@@ -1,11 +1,11 @@
 -- Laws of the State: it is given by its rows and columns.
 -- Assumes nothing.
-use mathlib.Core.Path.{_≡_, sym, ap, ap₂, _∙_}
+use mathlib.Core.Path.{_≡_, ap, ap₂, _∙_}
 use mathlib.Core.List.{List}
 use Prim.Native.Nat.{ℕ, _+_, _*_, _/_, _%_, _<_}
 use native.Mathlib.Omega.{arith}
 use lib.ListN.{length, getD}
-use Rattle.octets.specs.Strings.{Bytes, Octets, table}
+use Rattle.octets.specs.Strings.{Bytes, Octets}
 use Rattle.octets.proofs.Strings.{byte-at, length-table, getD-table, table-is, table-same, bytes-table}
 use Rattle.aes.specs.State.{at, state}
 
@@ -26,11 +26,6 @@ state-is f s e h =
 pub state-same : (f g : ℕ → ℕ → ℕ) → ((r c : ℕ) → f r c ≡ g r c) → state f ≡ state g
 unfolding state
 state-same f g h = table-same _ _ 16 (λ i l. h (i % 4) (i / 4))
-
--- byte i of the State is in row i mod 4 and column i / 4
-pub table-state : (f : ℕ → ℕ) (g : ℕ → ℕ → ℕ) → ((i : ℕ) → i < 16 → f i ≡ g (i % 4) (i / 4)) → table f 16 ≡ state g
-unfolding state
-table-state f g h = table-same f _ 16 h
 
 pub at-byte : (s : List ℕ) → Bytes s → (r c : ℕ) → at s r c < 256
 unfolding at

@@ -1,24 +1,23 @@
 -- Each transformation takes a block of 16 bytes to one, and is undone by its inverse.
 -- Assumes nothing.
-use mathlib.Core.Path.{_≡_, refl, sym, ap, subst, _∙_}
+use mathlib.Core.Path.{_≡_, ap, _∙_}
 use mathlib.Core.List.{List}
-use Prim.Native.Nat.{ℕ, zero, suc, _+_, _-_, _*_, _/_, _%_, _<_, _≤_}
+use Prim.Native.Nat.{ℕ, zero, suc, _+_, _-_, _*_, _%_, _<_, _≤_}
 use native.Mathlib.Omega.{arith}
-use lib.Bits.{bitXor}
-use lib.ListN.{length, getD, set, drop}
-use Rattle.octets.specs.Strings.{Bytes, Octets, table}
+use lib.ListN.{length, drop}
+use Rattle.octets.specs.Strings.{Bytes, Octets}
 use Rattle.octets.specs.Xor.{xors}
 use Rattle.octets.specs.Blocks.{block}
-use Rattle.octets.proofs.Strings.{bytes-take, bytes-drop, getD-table, Filled, fill-value}
-use Rattle.octets.proofs.Xor.{length-xors, bytes-xors, xors-comm, xors-cancel, xors-part}
+use Rattle.octets.proofs.Strings.{bytes-take, bytes-drop}
+use Rattle.octets.proofs.Xor.{length-xors, bytes-xors, xors-comm, xors-cancel}
 use Rattle.octets.proofs.Blocks.{length-block}
 use Rattle.field.specs.Field.{dot}
 use Rattle.field.specs.SBox.{sBox, invSBox}
 use Rattle.field.proofs.Rules.{sBox-byte, invSBox-byte, sBox-invSBox, invSBox-sBox}
 use Rattle.field.proofs.Columns.{Column, dot-byte, unmix-undoes, mix-undoes}
-use Rattle.aes.specs.State.{at, state, under}
-use Rattle.aes.specs.Steps.{substituted, subBytes, shiftRows, timesMatrix, mixColumns, addRoundKey, invSubBytes, invShiftRows, invMixColumns}
-use Rattle.aes.proofs.StateLaws.{at-state, state-is, state-same, table-state, at-byte, state-octets}
+use Rattle.aes.specs.State.{at, state}
+use Rattle.aes.specs.Steps.{subBytes, shiftRows, timesMatrix, mixColumns, addRoundKey, invSubBytes, invShiftRows, invMixColumns}
+use Rattle.aes.proofs.StateLaws.{at-state, state-is, at-byte, state-octets}
 
 -- ---- substitutions
 
@@ -30,19 +29,6 @@ unfolding substitution
 substitution-undo f g law {s} o =
     state-is _ s (o .size)
     (λ r c h k. ap g (at-state (λ r c. f (at s r c)) r c h k) ∙ law (at s r c) (at-byte s (o .small) r c))
-
--- by the table of a function, a block of bytes is under that function
-by-table : (f : ℕ → ℕ) (s : List ℕ) → Bytes s → substituted (table f 256) s ≡ substitution f s
-unfolding substituted substitution
-by-table f s b = state-same _ _ (λ r c. getD-table f 256 (at s r c) (at-byte s b r c))
-
-pub by-sBox : (s : List ℕ) → Bytes s → substituted (table sBox 256) s ≡ subBytes s
-unfolding substitution subBytes
-by-sBox s b = by-table sBox s b
-
-pub by-invSBox : (s : List ℕ) → Bytes s → substituted (table invSBox 256) s ≡ invSubBytes s
-unfolding substitution invSubBytes
-by-invSBox s b = by-table invSBox s b
 
 pub subBytes-octets : (s : List ℕ) → Octets 16 (subBytes s)
 unfolding subBytes
@@ -158,66 +144,3 @@ module _ (w : List ℕ) (n : ℕ) (room : 16 * suc n ≤ length w) {s : List ℕ
       xors-comm (xors s (block 16 w n)) (block 16 w n)
       ∙ ap (xors (block 16 w n)) (xors-comm s (block 16 w n))
       ∙ xors-cancel (block 16 w n) s (omega (arith, o .size, length-block 16 w n room))
-
--- ---- the steps as the code takes them, byte i from its place
-
-pub substituted-table : (t s : List ℕ) → table (λ i. getD t (getD s i 0) 0) 16 ≡ substituted t s
-unfolding substituted at
-substituted-table t s = table-state _ _ (λ i h. ap (λ (k : ℕ). getD t (getD s k 0) 0) {x = i} {y = i % 4 + 4 * (i / 4)} (omega arith))
-
-pub shiftRows-table : (s : List ℕ) → table (λ i. getD s (5 * i % 16) 0) 16 ≡ shiftRows s
-unfolding shiftRows at
-shiftRows-table s = table-state _ _ (λ i h. ap (λ (k : ℕ). getD s k 0) {x = 5 * i % 16} {y = i % 4 + 4 * ((i / 4 + i % 4) % 4)} (omega arith))
-
-pub invShiftRows-table : (s : List ℕ) → table (λ i. getD s (13 * i % 16) 0) 16 ≡ invShiftRows s
-unfolding invShiftRows at
-invShiftRows-table s =
-    table-state _ _ (λ i h. ap (λ (k : ℕ). getD s k 0) {x = 13 * i % 16} {y = i % 4 + 4 * ((i / 4 + 4 - i % 4) % 4)} (omega arith))
-
-under-row : (s : List ℕ) (i k : ℕ) → under s i k ≡ at s ((i % 4 + k) % 4) (i / 4)
-unfolding under at
-under-row s i k = ap (λ (j : ℕ). getD s j 0) {x = i / 4 * 4 + (i + k) % 4} {y = (i % 4 + k) % 4 + 4 * (i / 4)} (omega arith)
-
-first : (s : List ℕ) (i : ℕ) → getD s i 0 ≡ at s (i % 4) (i / 4)
-unfolding at
-first s i = ap (λ (j : ℕ). getD s j 0) {x = i} {y = i % 4 + 4 * (i / 4)} (omega arith)
-
-pub timesMatrix-table : (p q u v : ℕ) (s : List ℕ) →
-    table (λ i. dot p q u v (getD s i 0) (under s i 1) (under s i 2) (under s i 3)) 16 ≡ timesMatrix p q u v s
-unfolding timesMatrix
-timesMatrix-table p q u v s = table-state _ _ (λ i h. rw (under-row s i 1, under-row s i 2, under-row s i 3, first s i))
-
-pub dot-same : (p q u v : ℕ) {a b c d a′ b′ c′ d′ : ℕ} → a ≡ a′ → b ≡ b′ → c ≡ c′ → d ≡ d′ → dot p q u v a b c d ≡ dot p q u v a′ b′ c′ d′
-dot-same p q u v e f g h = rw (e, f, g, h)
-
-pub addRoundKey-table : (w : List ℕ) (n : ℕ) (s : List ℕ) → length s ≡ 16 → 16 * suc n ≤ length w → table (λ i. bitXor (getD s i 0) (getD w (16 * n + i) 0)) 16 ≡ addRoundKey w n s
-unfolding addRoundKey
-addRoundKey-table w n s e h = xors-part 16 (16 * n) s w e (omega arith)
-
--- ---- a column a turn
-
-under-is : (s : List ℕ) (n j t : ℕ) → n / 4 * 4 + (n + j) % 4 ≡ t → getD s t 0 ≡ under s n j
-unfolding under
-under-is s n j t e = ap (λ (k : ℕ). getD s k 0) (sym e)
-
--- the rule by which a matrix fills the State
-abbrev pub times : ℕ → ℕ → ℕ → ℕ → List ℕ → ℕ → ℕ
-times p q u v s i = dot p q u v (getD s i 0) (under s i 1) (under s i 2) (under s i 3)
-
--- the four rows of column i, one after the other
-pub column-turn : (p q u v : ℕ) (s : List ℕ) {d r : List ℕ} (i : ℕ) → Filled (times p q u v s) 16 d (4 * i) r → i < 4 → {x y z w : ℕ} →
-    x ≡ dot p q u v (getD s (4 * i) 0) (getD s (4 * i + 1) 0) (getD s (4 * i + 2) 0) (getD s (4 * i + 3) 0) →
-    y ≡ dot p q u v (getD s (4 * i + 1) 0) (getD s (4 * i + 2) 0) (getD s (4 * i + 3) 0) (getD s (4 * i) 0) →
-    z ≡ dot p q u v (getD s (4 * i + 2) 0) (getD s (4 * i + 3) 0) (getD s (4 * i) 0) (getD s (4 * i + 1) 0) →
-    w ≡ dot p q u v (getD s (4 * i + 3) 0) (getD s (4 * i) 0) (getD s (4 * i + 1) 0) (getD s (4 * i + 2) 0) →
-    Filled (times p q u v s) 16 d (4 * (i + 1)) (set (set (set (set r (4 * i) x) (4 * i + 1) y) (4 * i + 2) z) (4 * i + 3) w)
-column-turn p q u v s {d} {r} i f h ex ey ez ew =
-    let is = under-is s in
-    let f₁ = fill-value f (omega arith) (ex ∙ dot-same p q u v refl (is (4 * i) 1 (4 * i + 1) (omega arith)) (is (4 * i) 2 (4 * i + 2) (omega arith)) (is (4 * i) 3 (4 * i + 3) (omega arith))) in
-    let f₂ = fill-value f₁ (omega arith) (ey ∙ dot-same p q u v refl (is (4 * i + 1) 1 (4 * i + 2) (omega arith)) (is (4 * i + 1) 2 (4 * i + 3) (omega arith)) (is (4 * i + 1) 3 (4 * i) (omega arith))) in
-    let f₃ = fill-value (next f₂ (omega arith)) (omega arith) (ez ∙ dot-same p q u v refl (is (4 * i + 2) 1 (4 * i + 3) (omega arith)) (is (4 * i + 2) 2 (4 * i) (omega arith)) (is (4 * i + 2) 3 (4 * i + 1) (omega arith))) in
-    let f₄ = fill-value (next f₃ (omega arith)) (omega arith) (ew ∙ dot-same p q u v refl (is (4 * i + 3) 1 (4 * i) (omega arith)) (is (4 * i + 3) 2 (4 * i + 1) (omega arith)) (is (4 * i + 3) 3 (4 * i + 2) (omega arith))) in
-    next f₄ (omega arith)
-  where
-    next : {m n : ℕ} {t : List ℕ} → Filled (times p q u v s) 16 d m t → m ≡ n → Filled (times p q u v s) 16 d n t
-    next {t = t} g e = subst (λ (k : ℕ). Filled (times p q u v s) 16 d k t) e g

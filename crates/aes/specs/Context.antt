@@ -5,13 +5,17 @@ use mathlib.Core.List.{List, _++_}
 use Prim.Native.Nat.{ℕ, _-_}
 use lib.ListN.{length, replicate}
 use Rattle.octets.specs.Strings.{table}
-use Rattle.field.specs.SBox.{sBox, invSBox}
+use Rattle.field.specs.SBox.{invSBox}
+use Rattle.field.specs.Round.{tables}
 use Rattle.aes.specs.Schedule.{isKey, keyExpansion}
 
--- the tables that the rounds read and the round keys, in 752 bytes; nothing outside this crate looks inside
+-- a context with no key: the round tables, and zeros
+abbrev pub blankContext : List ℕ
+blankContext = tables ++ replicate 496 0
+
+-- the tables that the rounds read and the round keys, in 4,592 bytes; nothing outside this crate looks inside
 unfoldable pub contextOf : List ℕ → List ℕ
-contextOf key =
-    table sBox 256 ++ (table invSBox 256 ++ (keyExpansion key ++ replicate (240 - length (keyExpansion key)) 0))
+contextOf key = tables ++ (table invSBox 256 ++ (keyExpansion key ++ replicate (240 - length (keyExpansion key)) 0))
 
 -- the context after a key was set: a string that is no key leaves it as it was
 unfoldable pub keyed : List ℕ → List ℕ → List ℕ

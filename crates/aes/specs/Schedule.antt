@@ -1,9 +1,10 @@
 -- KeyExpansion of FIPS 197, section 5.2, figure 11 (document 003, figure 3.10), for Nk = 4, 6, 8. The schedule is the list
 -- of its words' bytes; word i is its bytes 4 i to 4 i + 3.
 -- Assumes nothing.
+use mathlib.Core.Path.{_≡_}
 use mathlib.Core.Bool.{Bool, cond, _&&_, _||_}
 use mathlib.Core.List.{List, [], _∷_, _++_}
-use Prim.Native.Nat.{ℕ, zero, suc, _+_, _-_, _*_, _/_, _%_}
+use Prim.Native.Nat.{ℕ, zero, suc, _+_, _-_, _*_, _/_, _%_, _<_, _≤_}
 use lib.Dec.{eqb, ltb}
 use lib.ListN.{length, getD}
 use Rattle.octets.specs.Strings.{table}
@@ -65,3 +66,11 @@ expanded nk key (suc m) = extend nk (nk + m) (expanded nk key m)
 -- all 4 (Nr + 1) words
 unfoldable pub keyExpansion : List ℕ → List ℕ
 keyExpansion key = let nk = length key / 4 in expanded nk key (4 * (roundsOf nk + 1) - nk)
+
+-- word i of a schedule with Nk key words comes after them, and r is the reciprocal of Nk in parts of 256
+pub record Place (nk r i : ℕ) : Type 0 where
+  pub least : 4 ≤ nk
+  pub most : nk ≤ 8
+  pub after : nk ≤ i
+  pub within : i < 11 * nk
+  pub part : r ≡ 255 / nk + 1

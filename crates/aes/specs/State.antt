@@ -12,7 +12,3 @@ at s r c = getD s (r + 4 * c) 0
 -- the State with f r c in row r and column c
 unfoldable pub state : (ℕ → ℕ → ℕ) → List ℕ
 state f = table (λ i. f (i % 4) (i / 4)) 16
-
--- the byte k rows under byte i, in the same column and round
-unfoldable pub under : List ℕ → ℕ → ℕ → ℕ
-under s i k = getD s (i / 4 * 4 + (i + k) % 4) 0

@@ -2,16 +2,11 @@
 -- Assumes nothing.
 use mathlib.Core.List.{List}
 use Prim.Native.Nat.{ℕ, _+_, _-_, _%_}
-use lib.ListN.{getD}
 use Rattle.octets.specs.Xor.{xors}
 use Rattle.octets.specs.Blocks.{block}
 use Rattle.field.specs.Field.{dot}
 use Rattle.field.specs.SBox.{sBox, invSBox}
 use Rattle.aes.specs.State.{at, state}
-
--- each byte replaced by its entry in a table of 256
-unfoldable pub substituted : List ℕ → List ℕ → List ℕ
-substituted t s = state (λ r c. getD t (at s r c) 0)
 
 -- section 5.1.1: the S-box applied to each byte
 unfoldable pub subBytes : List ℕ → List ℕ

@@ -4,20 +4,22 @@ use crate::schedule::expand;
 ghost use mathlib.Core.Path.{_≡_};
 ghost use mathlib.Core.Bool.{true};
 ghost use Prim.Native.Nat.{_*_, _≤_, suc};
-ghost use lib.ListN.{length, replicate};
+ghost use lib.ListN.{length};
 ghost use Rattle.octets.specs.Strings.{table};
-ghost use Rattle.field.specs.SBox.{sBox, invSBox};
+ghost use Rattle.field.specs.SBox.{invSBox};
+ghost use Rattle.field.specs.Round.{entry, inverseEntry};
 ghost use Rattle.aes.specs.Schedule.{isKey, keyExpansion};
 ghost use Rattle.aes.specs.Cipher.{keyRounds};
-ghost use Rattle.aes.specs.Context.{contextOf, keyed};
+ghost use Rattle.aes.specs.Context.{blankContext, contextOf, keyed};
+ghost use Rattle.aes.specs.Words.{Entries};
 
-pub type Context = [u8; 752];
+pub type Context = [u8; 4592];
 
 // A context with no key.
 pub fn blank() -> Context
-    ensures { λ r. ⌜ r ≡ replicate 752 0 ⌝ }
+    ensures { λ r. ⌜ r ≡ blankContext ⌝ }
 {
-    [0; 752]
+    field::round_tables()
 }
 
 fn is_key(key: &[u8]) -> bool
@@ -33,19 +35,18 @@ fn is_key(key: &[u8]) -> bool
     n == 32
 }
 
-// The tables are read here, once for each key, and lent from here on: a constant table is stored to
-// the stack at every call of a function that names it.
-fn fill(key: &[u8], ctx: &mut [u8])
+// Fills a blank context for a key. The tables are read here, once for each key, and lent from here
+// on: a constant table is stored to the stack at every call of a function that names it.
+pub fn fill(key: &[u8], ctx: &mut [u8])
     requires { ⌜ isKey (now key) ≡ true ⌝ }
-    requires { ⌜ length (now ctx) ≡ 752 ⌝ }
-    requires { ⌜ now ctx ≡ replicate 752 0 ⌝ }
+    requires { ⌜ length (now ctx) ≡ 4592 ⌝ }
+    requires { ⌜ now ctx ≡ blankContext ⌝ }
     ensures { λ _. ⌜ now (ctx .exit) ≡ contextOf (now (key .entry)) ⌝ }
 {
     let s = field::s_box();
     let t = field::inverse_s_box();
-    octets::put(ctx, &s);
-    octets::put(&mut ctx[256..], &t);
-    expand(key, &s, &mut ctx[512..]);
+    octets::put(&mut ctx[4096..], &t);
+    expand(key, &s, &mut ctx[4352..]);
 }
 
 // Fills a context for a key and answers true, or answers false and leaves it where the key has not
@@ -54,7 +55,7 @@ pub fn set_key(key: &[u8], ctx: &mut Context) -> bool
     ensures { λ r. ⌜ (r ≡ isKey (now (key .entry))) × (now (ctx .exit) ≡ keyed (now (key .entry)) (now (ctx .entry))) ⌝ }
 {
     if is_key(key) {
-        *ctx = [0; 752];
+        *ctx = blank();
         fill(key, ctx);
         return true;
     }
@@ -63,18 +64,25 @@ pub fn set_key(key: &[u8], ctx: &mut Context) -> bool
 
 // The parts of a context that the rounds read.
 
-pub fn s_box<'a>(key: &[u8], ctx: &'a [u8]) -> &'a [u8]
-    requires { ⌜ now ctx ≡ contextOf (now key) ⌝ }
-    ensures { λ r. ⌜ now r ≡ table sBox 256 ⌝ }
-{
-    &ctx[..256]
-}
-
 pub fn inverse_s_box<'a>(key: &[u8], ctx: &'a [u8]) -> &'a [u8]
     requires { ⌜ now ctx ≡ contextOf (now key) ⌝ }
     ensures { λ r. ⌜ now r ≡ table invSBox 256 ⌝ }
 {
-    &ctx[256..512]
+    &ctx[4096..4352]
+}
+
+pub fn round_table<'a>(key: &[u8], ctx: &'a [u8]) -> &'a [u8]
+    requires { ⌜ now ctx ≡ contextOf (now key) ⌝ }
+    ensures { λ r. ⌜ Entries entry (now r) ⌝ }
+{
+    &ctx[..2048]
+}
+
+pub fn inverse_table<'a>(key: &[u8], ctx: &'a [u8]) -> &'a [u8]
+    requires { ⌜ now ctx ≡ contextOf (now key) ⌝ }
+    ensures { λ r. ⌜ Entries inverseEntry (now r) ⌝ }
+{
+    &ctx[2048..4096]
 }
 
 pub fn round_keys<'a>(key: &[u8], ctx: &'a [u8]) -> &'a [u8]
@@ -82,8 +90,8 @@ pub fn round_keys<'a>(key: &[u8], ctx: &'a [u8]) -> &'a [u8]
     requires { ⌜ now ctx ≡ contextOf (now key) ⌝ }
     ensures { λ r. ⌜ (now r ≡ keyExpansion (now (key .entry))) × (length (now r) ≡ 16 * suc (keyRounds (now (key .entry)))) ⌝ }
 {
-    let end = 528 + 16 * rounds_of(key);
-    &ctx[512..end]
+    let end = 4368 + 16 * rounds_of(key);
+    &ctx[4352..end]
 }
 
 // The number of rounds that goes with a key.

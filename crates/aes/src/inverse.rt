@@ -1,65 +1,91 @@
-// D: decryption.
+// D: decryption, on words, step by step.
 use crate::context::Context;
 use crate::context::inverse_s_box;
+use crate::context::inverse_table;
 use crate::context::round_keys;
 use crate::context::rounds_of;
-use crate::steps::add_round_key;
-use crate::steps::inv_mix_columns;
-use crate::steps::inv_shift_rows;
-use crate::steps::substitute;
+use crate::table::add_key;
+use crate::table::mixed;
+use crate::words::Words;
+use crate::words::look_up;
+use crate::words::read;
+use crate::words::write;
 ghost use mathlib.Core.Path.{_≡_};
 ghost use mathlib.Core.Bool.{true};
 ghost use Prim.Native.Nat.{_-_, _*_, _≤_, suc};
 ghost use lib.ListN.{length};
 ghost use Rattle.octets.specs.Strings.{table};
 ghost use Rattle.field.specs.SBox.{invSBox};
+ghost use Rattle.field.specs.Round.{inverseEntry};
 ghost use Rattle.aes.specs.Schedule.{isKey};
-ghost use Rattle.aes.specs.Steps.{invSubBytes, invShiftRows};
+ghost use Rattle.aes.specs.Steps.{invSubBytes, invShiftRows, invMixColumns};
 ghost use Rattle.aes.specs.Cipher.{fullInvRound, invRounds, invCipher, invCipherOver};
 ghost use Rattle.aes.specs.Context.{contextOf};
+ghost use Rattle.aes.specs.Words.{blockOf, Entries};
 
 // InvShiftRows, InvSubBytes.
-fn unshift_unsub(t: &[u8], s: [u8; 16]) -> [u8; 16]
+fn unshift_unsub(t: &[u8], k: Words) -> Words
     requires { ⌜ now t ≡ table invSBox 256 ⌝ }
-    ensures { λ r. ⌜ r ≡ invSubBytes (invShiftRows s) ⌝ }
+    ensures { λ r. ⌜ blockOf r ≡ invSubBytes (invShiftRows (blockOf k)) ⌝ }
 {
-    substitute(t, inv_shift_rows(s))
+    Words {
+        a: look_up(t, k.a, k.d, k.c, k.b),
+        b: look_up(t, k.b, k.a, k.d, k.c),
+        c: look_up(t, k.c, k.b, k.a, k.d),
+        d: look_up(t, k.d, k.c, k.b, k.a),
+    }
+}
+
+// InvMixColumns, by its table.
+fn inv_mix_columns(u: &[u8], k: Words) -> Words
+    requires { ⌜ Entries inverseEntry (now u) ⌝ }
+    ensures { λ r. ⌜ blockOf r ≡ invMixColumns (blockOf k) ⌝ }
+{
+    Words {
+        a: mixed(u, k.a, k.a, k.a, k.a),
+        b: mixed(u, k.b, k.b, k.b, k.b),
+        c: mixed(u, k.c, k.c, k.c, k.c),
+        d: mixed(u, k.d, k.d, k.d, k.d),
+    }
 }
 
 // A full round, with round key n.
-fn full_inv_round(t: &[u8], w: &[u8], n: usize, s: [u8; 16]) -> [u8; 16]
+fn full_inv_round(t: &[u8], u: &[u8], w: &[u8], n: usize, k: Words) -> Words
     requires { ⌜ now t ≡ table invSBox 256 ⌝ }
+    requires { ⌜ Entries inverseEntry (now u) ⌝ }
     requires { ⌜ 16 * suc n ≤ length (now w) ⌝ }
-    ensures { λ r. ⌜ r ≡ fullInvRound (now (w .entry)) n s ⌝ }
+    ensures { λ r. ⌜ blockOf r ≡ fullInvRound (now (w .entry)) n (blockOf k) ⌝ }
 {
-    inv_mix_columns(add_round_key(w, n, unshift_unsub(t, s)))
+    inv_mix_columns(u, add_key(w, n, unshift_unsub(t, k)))
 }
 
 // The first AddRoundKey, with round key nr, and the full rounds, with round keys nr - 1 to 1; t is
-// the inverse S-box and w the schedule.
-fn full_inv_rounds(t: &[u8], w: &[u8], nr: usize, block: [u8; 16]) -> [u8; 16]
+// the inverse S-box, u the table of InvMixColumns and w the schedule.
+fn full_inv_rounds(t: &[u8], u: &[u8], w: &[u8], nr: usize, block: [u8; 16]) -> Words
     requires { ⌜ now t ≡ table invSBox 256 ⌝ }
+    requires { ⌜ Entries inverseEntry (now u) ⌝ }
     requires { ⌜ (1 ≤ nr) × (16 * suc nr ≤ length (now w)) ⌝ }
-    ensures { λ r. ⌜ r ≡ invRounds (now (w .entry)) nr (nr - 1) block ⌝ }
+    ensures { λ r. ⌜ blockOf r ≡ invRounds (now (w .entry)) nr (nr - 1) block ⌝ }
 {
-    let mut s = add_round_key(w, nr, block);
+    let mut k = add_key(w, nr, read(block));
     let mut i = 0;
     while i < nr - 1 {
-        let next = full_inv_round(t, w, nr - (i + 1), s);
-        s = next;
+        let next = full_inv_round(t, u, w, nr - (i + 1), k);
+        k = next;
         i += 1;
     }
-    s
+    k
 }
 
-// InvCipher, with the inverse S-box t, the schedule w and nr rounds.
-fn decipher(t: &[u8], w: &[u8], nr: usize, block: [u8; 16]) -> [u8; 16]
+// InvCipher, with the tables t and u, the schedule w and nr rounds.
+fn decipher(t: &[u8], u: &[u8], w: &[u8], nr: usize, block: [u8; 16]) -> [u8; 16]
     requires { ⌜ now t ≡ table invSBox 256 ⌝ }
+    requires { ⌜ Entries inverseEntry (now u) ⌝ }
     requires { ⌜ (1 ≤ nr) × (16 * suc nr ≤ length (now w)) ⌝ }
     ensures { λ r. ⌜ r ≡ invCipherOver (now (w .entry)) nr block ⌝ }
 {
-    let s = full_inv_rounds(t, w, nr, block);
-    add_round_key(w, 0, unshift_unsub(t, s))
+    let k = full_inv_rounds(t, u, w, nr, block);
+    write(add_key(w, 0, unshift_unsub(t, k)))
 }
 
 // D: the block under the key, whose context is lent.
@@ -71,6 +97,7 @@ pub fn decrypt(key: &[u8], ctx: &Context, block: [u8; 16]) -> [u8; 16]
     let c = &ctx[..];
     decipher(
         inverse_s_box(key, c),
+        inverse_table(key, c),
         round_keys(key, c),
         rounds_of(key),
         block,

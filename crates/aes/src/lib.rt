@@ -6,13 +6,15 @@ mod cipher;
 mod context;
 mod inverse;
 mod schedule;
-mod steps;
+mod table;
+mod words;
 
 pub use cipher::encrypt;
 pub use cipher::round_key;
 pub use cipher::state_after;
 pub use context::Context;
 pub use context::blank;
+pub use context::fill;
 pub use context::set_key;
 pub use inverse::decrypt;
 ghost use mathlib.Core.Path.{_≡_};

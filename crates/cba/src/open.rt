@@ -32,10 +32,8 @@ fn open_checked(
     ensures { λ r. ⌜ Answered (DEC (cipher (now (key .entry))) (invCipher (now (key .entry))) tag capacity (now (nonce .entry)) (now (header .entry)) (now (text .entry))) (length (now (text .entry)) - tagBytes tag) r (now (out .entry)) (now (out .exit)) ⌝ }
 {
     let mut ctx = aes::blank();
-    if aes::set_key(key, &mut ctx) {
-        return open_text(key, &ctx, tag, capacity, nonce, header, text, out);
-    }
-    false
+    aes::fill(key, &mut ctx);
+    open_text(key, &ctx, tag, capacity, nonce, header, text, out)
 }
 
 // The checks after the first, in their order, for a set that is known.

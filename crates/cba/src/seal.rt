@@ -33,9 +33,8 @@ fn seal_accepted(
     ensures { λ _. ⌜ now (out .exit) ≡ ENC (cipher (now (key .entry))) tag capacity (now (nonce .entry)) (now (header .entry)) (now (text .entry)) ++ drop (length (now (text .entry)) + tagBytes tag) (now (out .entry)) ⌝ }
 {
     let mut ctx = aes::blank();
-    if aes::set_key(key, &mut ctx) {
-        seal_message(key, &ctx, tag, capacity, nonce, header, text, out);
-    }
+    aes::fill(key, &mut ctx);
+    seal_message(key, &ctx, tag, capacity, nonce, header, text, out);
 }
 
 // The checks after the first, in their order, for a set that is known.

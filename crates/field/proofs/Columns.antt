@@ -2,7 +2,7 @@
 -- Assumes nothing.
 use mathlib.Core.Path.{_≡_, refl, sym, ap, ap₂, _∙_}
 use mathlib.Core.List.{List, [], _∷_}
-use Prim.Native.Nat.{ℕ, zero, suc, _+_, _*_, _/_, _%_, _^_, _<_}
+use Prim.Native.Nat.{ℕ, zero, suc, _*_, _/_, _%_, _<_}
 use native.Mathlib.Nat.{add-zero}
 use native.Mathlib.Omega.{arith}
 use lib.Bits.{bitXor, xor-comm, xor-self, xor-zero-l, xor-shr, xor-mod, xor-block}
@@ -104,6 +104,10 @@ test = tt
 
 multiples : (i v : ℕ) → v < 256 → getD (found v) i 0 ≡ getD (right v) i 0
 multiples i v h = ap (λ (s : List ℕ). getD s i 0) (same found right 256 test v h)
+
+pub mul-one : (v : ℕ) → v < 256 → mul 1 v ≡ v
+unfolding found right
+mul-one = multiples 0
 
 -- ---- a row of each matrix
 

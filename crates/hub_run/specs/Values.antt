@@ -7,8 +7,9 @@ use Prim.Native.Nat.{ℕ, _-_, _<_, _≤_}
 use lib.ListN.{length, take, getD}
 use Rattle.hub_text.specs.Writing.{Puts}
 use Rattle.hub_run.specs.declared.state.Hub.{Hub}
+use Rattle.hub_run.specs.declared.line.Step.{Step}
 use Rattle.hub_run.specs.declared.chunk.Fed.{Fed}
-use Rattle.hub_run.specs.Stream.{State, begin, over, after, output, pending}
+use Rattle.hub_run.specs.Stream.{State, begin, over, ended, endSays, after, output, pending}
 
 abbrev pub stateOf : Hub → List ℕ → State
 stateOf h line = record { lines = h .lines; wrong = h .wrong; counts = h .counts; line = take (h .length) line }
@@ -40,6 +41,10 @@ pub record Goes (st : State) (s : List ℕ) (h : Hub) (line : List ℕ) (r : ℕ
   pub sound : Sound h line
   pub state-is : stateOf h line ≡ st
   pub said : Puts s r d out
+
+-- what the end of the line that the buffer holds promises
+abbrev pub Ends : Hub → List ℕ → Step → List ℕ → List ℕ → Type 0
+Ends h line r d out = Goes (ended (stateOf h line)) (endSays (stateOf h line)) (r .hub) line (r .written) d out
 
 -- what feeding a chunk promises: r says how much of it is used up, s; and where it has a byte, one at least is
 pub record Feeds (h : Hub) (line chunk : List ℕ) (r : Fed) (line′ d out : List ℕ) : Type 0 where

@@ -10,8 +10,8 @@ ghost use Prim.Native.Nat.{_≤_};
 ghost use lib.ListN.{length};
 ghost use Rattle.hub_text.specs.Writing.{Puts};
 ghost use Rattle.hub_run.specs.Whole.{summaryHead};
-ghost use Rattle.hub_run.specs.Stream.{over, ended, endSays, summary, ending};
-ghost use Rattle.hub_run.specs.Values.{Sound, IsPending, Goes, stateOf};
+ghost use Rattle.hub_run.specs.Stream.{over, summary, ending};
+ghost use Rattle.hub_run.specs.Values.{Sound, IsPending, Ends, stateOf};
 
 // Whether the input ended within a line, or without a first line.
 fn is_pending(h: Hub) -> bool
@@ -54,7 +54,7 @@ fn end_last(h: Hub, line: &[u8], out: &mut [u8]) -> Step
     requires { ⌜ over (stateOf h (now line)) ≡ false ⌝ }
     requires { ⌜ 4200 ≤ length (now out) ⌝ }
     requires { ⌜ Sound h (now line) ⌝ }
-    ensures { λ r. ⌜ (r .written ≤ 4200) × Goes (ended (stateOf h (now (line .entry)))) (endSays (stateOf h (now (line .entry)))) (r .hub) (now (line .entry)) (r .written) (now (out .entry)) (now (out .exit)) ⌝ }
+    ensures { λ r. ⌜ (r .written ≤ 4200) × Ends h (now (line .entry)) r (now (out .entry)) (now (out .exit)) ⌝ }
 {
     end_line(h, line, &mut out[..4200])
 }

@@ -8,8 +8,8 @@ ghost use lib.ListN.{length};
 ghost use Rattle.octets.specs.Strings.{eqs};
 ghost use Rattle.hub_text.specs.Writing.{Puts};
 ghost use Rattle.hub_run.specs.Whole.{firstLine, wrongFirst};
-ghost use Rattle.hub_run.specs.Stream.{over, counted, ended, endSays};
-ghost use Rattle.hub_run.specs.Values.{Below, Sound, Goes, stateOf};
+ghost use Rattle.hub_run.specs.Stream.{over, counted};
+ghost use Rattle.hub_run.specs.Values.{Below, Sound, Ends, stateOf};
 
 // The next state, and how many bytes are said.
 pub struct Step {
@@ -53,7 +53,7 @@ fn count(counts: [u32; 10], set: u32) -> [u32; 10]
 fn end_first(h: Hub, line: &[u8], out: &mut [u8]) -> Step
     requires { ⌜ (h .lines ≡ 0) × (7 ≤ length (now out)) ⌝ }
     requires { ⌜ Sound h (now line) ⌝ }
-    ensures { λ r. ⌜ Goes (ended (stateOf h (now (line .entry)))) (endSays (stateOf h (now (line .entry)))) (r .hub) (now (line .entry)) (r .written) (now (out .entry)) (now (out .exit)) ⌝ }
+    ensures { λ r. ⌜ Ends h (now (line .entry)) r (now (out .entry)) (now (out .exit)) ⌝ }
 {
     let n = h.length;
     let counts = h.counts;
@@ -80,7 +80,7 @@ fn end_first(h: Hub, line: &[u8], out: &mut [u8]) -> Step
 fn end_later(h: Hub, line: &[u8], out: &mut [u8]) -> Step
     requires { ⌜ (0 < h .lines) × (h .lines < 10000) × (4200 ≤ length (now out)) ⌝ }
     requires { ⌜ Sound h (now line) ⌝ }
-    ensures { λ r. ⌜ Goes (ended (stateOf h (now (line .entry)))) (endSays (stateOf h (now (line .entry)))) (r .hub) (now (line .entry)) (r .written) (now (out .entry)) (now (out .exit)) ⌝ }
+    ensures { λ r. ⌜ Ends h (now (line .entry)) r (now (out .entry)) (now (out .exit)) ⌝ }
 {
     let n = h.length;
     let counts = h.counts;
@@ -101,7 +101,7 @@ pub fn end_line(h: Hub, line: &[u8], out: &mut [u8]) -> Step
     requires { ⌜ over (stateOf h (now line)) ≡ false ⌝ }
     requires { ⌜ 4200 ≤ length (now out) ⌝ }
     requires { ⌜ Sound h (now line) ⌝ }
-    ensures { λ r. ⌜ Goes (ended (stateOf h (now (line .entry)))) (endSays (stateOf h (now (line .entry)))) (r .hub) (now (line .entry)) (r .written) (now (out .entry)) (now (out .exit)) ⌝ }
+    ensures { λ r. ⌜ Ends h (now (line .entry)) r (now (out .entry)) (now (out .exit)) ⌝ }
 {
     if h.lines == 0 {
         return end_first(h, line, out);

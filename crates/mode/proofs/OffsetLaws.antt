@@ -10,7 +10,7 @@ use native.Mathlib.Omega.{arith}
 use lib.Bits.{bitXor}
 use lib.Dec.{eqb}
 use borrow.Author.Tests.{ne-eqb}
-use lib.ListN.{length, take, drop, getD, replicate, length-append, length-take, length-drop, List·getD-append}
+use lib.ListN.{length, take, drop, getD, replicate, length-append, take-append-drop, length-take, length-drop, List·getD-append}
 use lib.Pow.{pow-mono}
 use lib.Seq.{take-all, take-at, drop-at, getD-append-add}
 use Rattle.octets.specs.Strings.{Bytes, Octets}
@@ -131,13 +131,16 @@ pair-second a b i h k =
     ∙ sym (ap (λ (j : ℕ). getD (digits 8 a ++ digits 8 b) j 0) {x = i} {y = length (digits 8 a) + (i - 8)} (omega (arith, length-digits 8 a))
     ∙ getD-append-add (digits 8 a) (digits 8 b) (i - 8) 0)
 
+-- two halves that were read off a block
+pub halves-back : (Δ : List ℕ) (x y : ℕ) → length Δ ≡ 16 → digits 8 x ≡ take 8 (drop 0 Δ) → digits 8 y ≡ take 8 (drop 8 Δ) → digits 8 x ++ digits 8 y ≡ Δ
+halves-back Δ x y l a b = ap₂ _++_ a (b ∙ take-all 8 (drop 8 Δ) (simp length-drop (omega arith))) ∙ take-append-drop 8 Δ
+
 -- F on the two halves
-pub F-halves : (p q : ℕ) (Δ : List ℕ) (x y u v : ℕ) → length Δ ≡ 16 →
-    digits 8 x ≡ take 8 (drop 0 Δ) → digits 8 y ≡ take 8 (drop 8 Δ) → digits 8 u ≡ times p (digits 8 x) → digits 8 v ≡ times q (digits 8 y) →
-    digits 8 u ++ digits 8 v ≡ F p q Δ
+pub F-halves : (p q x y u v : ℕ) → digits 8 u ≡ times p (digits 8 x) → digits 8 v ≡ times q (digits 8 y) → digits 8 u ++ digits 8 v ≡ F p q (digits 8 x ++ digits 8 y)
 unfolding F
-F-halves p q Δ x y u v l a b c d =
-    ap₂ _++_ (c ∙ ap (times p) a) (d ∙ ap (times q) (b ∙ take-all 8 (drop 8 Δ) (simp length-drop (omega arith))))
+F-halves p q x y u v a b =
+    let n : length (digits 8 x) ≡ 8 = length-digits 8 x in
+    ap₂ _++_ (a ∙ ap (times p) (sym (take-at (digits 8 x) (digits 8 y) 8 n))) (b ∙ ap (times q) (sym (drop-at (digits 8 x) (digits 8 y) 8 n)))
 
 -- ---- a half read byte by byte
 

@@ -6,13 +6,14 @@ use Prim.Native.Nat.{ℕ, zero, suc, _+_, _-_, _*_, _/_, _%_, _^_, _<_}
 use native.Mathlib.Nat.{zero-mul, mul-comm, mul-assoc, add-mul, mod-lt, mod-eq-of-lt, div-add-mod', div-lt-iff-lt-mul, mul-add-div-right, mul-add-mod-self-right, mul-lt-mul-of-pos-right}
 use native.Mathlib.Omega.{arith}
 use lib.Arith.{digits-lt}
-use lib.ListN.{length, take, drop, getD, replicate, take-append-drop, length-append, length-drop, List·getD-append, getD-replicate}
-use lib.Seq.{take-all, getD-append-add, getD-append-seam}
+use lib.ListN.{length, take, drop, getD, replicate, length-append, List·getD-append, getD-replicate}
+use lib.Seq.{getD-append-add, getD-append-seam}
 use Rattle.octets.specs.Strings.{table}
 use Rattle.octets.specs.Numbers.{number, digits}
 use Rattle.octets.proofs.Strings.{bytes-append, table-take}
 use Rattle.octets.proofs.Numbers.{length-digits, bytes-digits, number-digits, digits-number, number-append}
 use Rattle.mode.specs.Offsets.{F, ones, rotated, start, pad}
+use Rattle.mode.proofs.OffsetLaws.{halves-back}
 
 -- ---- two halves as one number
 
@@ -31,9 +32,7 @@ digits-pair u v h k =
 
 pub number-halves : (R : List ℕ) (a b : ℕ) → length R ≡ 16 → a < 2 ^ 64 → b < 2 ^ 64 →
     digits 8 a ≡ take 8 (drop 0 R) → digits 8 b ≡ take 8 (drop 8 R) → a * 2 ^ 64 + b ≡ number R
-number-halves R a b l h k p q =
-    sym (number-pair a b h k)
-    ∙ ap number (ap₂ _++_ p (q ∙ take-all 8 (drop 8 R) (simp length-drop (omega arith))) ∙ take-append-drop 8 R)
+number-halves R a b l h k p q = sym (number-pair a b h k) ∙ ap number (halves-back R a b l p q)
 
 -- ---- turning two halves, where P Q = 2^64
 

@@ -1,5 +1,6 @@
 pub mod Sets
 pub mod Offsets
+pub mod Halves
 pub mod Data
 pub mod Forms
 pub mod Seal

@@ -5,6 +5,7 @@ ghost use Prim.Native.Nat.{_+_, _*_, _/_, _%_, _^_, _≤_, _<_};
 ghost use lib.ListN.{take, drop, getD, replicate};
 ghost use Rattle.octets.specs.Numbers.{digits};
 ghost use Rattle.mode.specs.Offsets.{two, three, times, F, start, pad};
+ghost use Rattle.mode.specs.Halves.{halvesOf};
 
 // 2·A, with no branch.
 fn double(x: u64) -> u64
@@ -86,6 +87,37 @@ pub fn step(p: u8, q: u8, d: [u8; 16]) -> [u8; 16]
     ensures { λ r. ⌜ r ≡ F p q d ⌝ }
 {
     pair(multiple(p, half(d, 0)), multiple(q, half(d, 8)))
+}
+
+// An offset as its halves, so that a loop turns no bytes into numbers.
+pub struct Halves {
+    pub a: u64,
+    pub b: u64,
+}
+
+pub fn split(s: [u8; 16]) -> Halves
+    ensures { λ r. ⌜ halvesOf r ≡ s ⌝ }
+{
+    Halves {
+        a: half(s, 0),
+        b: half(s, 8),
+    }
+}
+
+// F(2, 2).
+pub fn doubled(h: Halves) -> Halves
+    ensures { λ r. ⌜ halvesOf r ≡ F 2 2 (halvesOf h) ⌝ }
+{
+    Halves {
+        a: double(h.a),
+        b: double(h.b),
+    }
+}
+
+pub fn whole(h: Halves) -> [u8; 16]
+    ensures { λ r. ⌜ r ≡ halvesOf h ⌝ }
+{
+    pair(h.a, h.b)
 }
 
 // Two halves turned right by k bits, where p is 2^k and q is 2^(64 - k).

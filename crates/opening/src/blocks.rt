@@ -1,5 +1,7 @@
 // The full blocks of a ciphertext, one loop for the joined and the separate form.
-use mode::step;
+use mode::doubled;
+use mode::split;
+use mode::whole;
 use sealing::Running;
 ghost use mathlib.Core.Path.{_≡_};
 ghost use mathlib.Core.Bool.{true};
@@ -37,22 +39,22 @@ pub fn plain_blocks(
     requires { ⌜ (16 * k ≤ length (now text)) × (16 * k ≤ length (now out)) ⌝ }
     ensures { λ r. ⌜ (r .offset ≡ offset start k) × (r .sum ≡ checksum (plainBlocks (cipher (now (key .entry))) (invCipher (now (key .entry))) start (now (text .entry)) k) k) × (now (out .exit) ≡ plainBlocks (cipher (now (key .entry))) (invCipher (now (key .entry))) start (now (text .entry)) k ++ drop (16 * k) (now (out .entry))) ⌝ }
 {
-    let mut s = Running {
-        offset: start,
-        sum: [0; 16],
-    };
+    let mut h = split(start);
+    let mut sum = [0u8; 16];
     let mut i = 0;
     while i < k {
-        let before = s.offset;
-        let offset = step(2, 2, before);
-        let m = opened_block(key, ctx, octets::first_block(&text[16 * i..]), offset);
+        let c = octets::first_block(&text[16 * i..]);
+        let next = doubled(h);
+        let offset = whole(next);
+        let m = opened_block(key, ctx, c, offset);
         octets::put(&mut out[16 * i..], &m);
-        let sum = s.sum;
-        s = Running {
-            offset: offset,
-            sum: octets::xor_block(sum, m),
-        };
+        let more = octets::xor_block(sum, m);
+        sum = more;
+        h = next;
         i += 1;
     }
-    s
+    Running {
+        offset: whole(h),
+        sum: sum,
+    }
 }

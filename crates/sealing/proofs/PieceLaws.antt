@@ -94,11 +94,11 @@ module _ {E : List ℕ → List ℕ} {Δ M d : List ℕ} {σ : ℕ → List ℕ}
       })
 
   -- the end of the loop
-  pub turned-all : {i : ℕ} {Δᵢ S out : List ℕ} → Turned E Δ M d σ k i Δᵢ S out → k ≤ i →
-      (Δᵢ ≡ offset Δ k) × (S ≡ σ k) × (out ≡ cipherBlocks E Δ M k ++ drop (16 * k) d)
-  turned-all {i} v h =
+  pub turned-all : {i : ℕ} {Δᵢ S out : List ℕ} → Turned E Δ M d σ k i Δᵢ S out → k ≤ i → (Δₖ : List ℕ) → Δₖ ≡ Δᵢ →
+      (Δₖ ≡ offset Δ k) × (S ≡ σ k) × (out ≡ cipherBlocks E Δ M k ++ drop (16 * k) d)
+  turned-all {i} v h Δₖ eΔ =
       let e : i ≡ k = le-antisymm (v .within) h in (
-        v .offset-now ∙ ap (offset Δ) e,
+        eΔ ∙ v .offset-now ∙ ap (offset Δ) e,
         v .sum-now ∙ ap σ e,
         v .so-far ∙ ap (λ (n : ℕ). cipherBlocks E Δ M i ++ drop n d) (v .size) ∙ ap (λ (n : ℕ). cipherBlocks E Δ M n ++ drop (16 * n) d) e,
       )

@@ -1,5 +1,7 @@
 // Pieces that the forms of sealing are made of.
-use mode::step;
+use mode::doubled;
+use mode::split;
+use mode::whole;
 ghost use mathlib.Core.Path.{_≡_};
 ghost use mathlib.Core.Bool.{true};
 ghost use mathlib.Core.List.{_++_, _∷_};
@@ -45,7 +47,7 @@ pub fn right_aligned(s: &[u8]) -> [u8; 16]
     r
 }
 
-// What the loop over the full blocks carries: the offset and the checksum.
+// What the loop over the full blocks leaves: the offset and the checksum.
 pub struct Running {
     pub offset: [u8; 16],
     pub sum: [u8; 16],
@@ -74,23 +76,22 @@ pub fn full_blocks(
     requires { ⌜ (16 * k ≤ length (now text)) × (16 * k ≤ length (now out)) ⌝ }
     ensures { λ r. ⌜ (r .offset ≡ offset start k) × (r .sum ≡ checksum (now (text .entry)) k) × (now (out .exit) ≡ cipherBlocks (cipher (now (key .entry))) start (now (text .entry)) k ++ drop (16 * k) (now (out .entry))) ⌝ }
 {
-    let mut s = Running {
-        offset: start,
-        sum: [0; 16],
-    };
+    let mut h = split(start);
+    let mut sum = [0u8; 16];
     let mut i = 0;
     while i < k {
         let m = octets::first_block(&text[16 * i..]);
-        let before = s.offset;
-        let offset = step(2, 2, before);
+        let next = doubled(h);
+        let offset = whole(next);
         let c = sealed_block(key, ctx, m, offset);
         octets::put(&mut out[16 * i..], &c);
-        let sum = s.sum;
-        s = Running {
-            offset: offset,
-            sum: octets::xor_block(sum, m),
-        };
+        let more = octets::xor_block(sum, m);
+        sum = more;
+        h = next;
         i += 1;
     }
-    s
+    Running {
+        offset: whole(h),
+        sum: sum,
+    }
 }

@@ -8,4 +8,4 @@ returns : tie.Need-returns
 returns c = cc
 
 pub encipher-spec : {M : Type 1} → statement M
-encipher-spec = tie.close (tie.spec (λ c. search needs) (λ c κs. search needs) (λ c κs. search needs) (λ c κs. search needs) returns)
+encipher-spec = tie.close (tie.spec (λ c. search needs) (λ c κs. search needs) (λ c κs. search needs) (λ c κs. search needs) (λ c κs. search needs) returns)

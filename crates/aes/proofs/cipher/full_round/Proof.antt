@@ -8,4 +8,4 @@ returns : tie.Need-returns
 returns c = cc
 
 pub full-round-spec : {M : Type 1} → statement M
-full-round-spec = tie.close (tie.spec (λ c κs. search needs) (λ c κs. search needs) (λ c κs. search needs) returns)
+full-round-spec = tie.close (tie.spec (λ c κs. search needs) (λ c κs. search needs) returns)

@@ -8,15 +8,16 @@ use native.Mathlib.Nat.{le-antisymm}
 use borrow.Author.Needs.{needs}
 use Rattle.aes.specs.Steps.{addRoundKey}
 use Rattle.aes.specs.Cipher.{rounds}
+use Rattle.aes.specs.Words.{blockOf}
 use Rattle.aes.proofs.CipherLaws.{rounds-more}
 use Rattle.aes.proofs.cipher.full_rounds.Statement.{statement}
 use Rattle.aes.proofs.cipher.full_rounds.Tie as tie
 
 abbrev Inv-loop : tie.InvT-loop
-Inv-loop t w n s₀ i₀ s i = (i ≤ n) × ((b : List ℕ) → s₀ ≡ addRoundKey w 0 b → s ≡ rounds w i b)
+Inv-loop t w n k₀ i₀ k i = (i ≤ n) × ((b : List ℕ) → blockOf k₀ ≡ addRoundKey w 0 b → blockOf k ≡ rounds w i b)
 
 abbrev μ-loop : tie.MeasureT-loop
-μ-loop t w n s₀ i₀ s i = n - i
+μ-loop t w n k₀ i₀ k i = n - i
 
 loop-holds : tie.Need-loop-holds Inv-loop μ-loop
 unfolding rounds
@@ -30,8 +31,8 @@ loop-again c =
 returns : tie.Need-returns Inv-loop μ-loop
 returns c =
     let at-loop = c .before in
-    let at-start = at-loop .before .before .before .before in
-    at-loop .loop .inv .1 (at-start .args .block) (at-loop .before .add-round-key .ensures)
+    let at-start = at-loop .before .before .before .before .before in
+    at-loop .loop .inv .1 (at-start .args .block) (at-loop .before .add-key .ensures ∙ ap (addRoundKey (at-start .args .w .now) 0) (at-loop .before .before .read .ensures))
     ∙ ap (λ (n : ℕ). rounds (at-start .args .w .now) n (at-start .args .block)) (le-antisymm (at-loop .loop .inv .0) (c .loop-test .left))
 
 pub full-rounds-spec : {M : Type 1} → statement M
@@ -40,6 +41,7 @@ full-rounds-spec =
     (tie.spec
     Inv-loop
     μ-loop
+    (λ c κs. search needs)
     (λ c κs. search needs)
     loop-holds
     (λ c. search needs)

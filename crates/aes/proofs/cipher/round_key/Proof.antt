@@ -19,8 +19,8 @@ to-zeros w n = xors-zero 16 (block 16 w n) ∙ take-take 16 16 (drop (16 * n) w)
 
 returns : tie.Need-returns
 returns c =
-    let n = c .before .before .before .before .args .n in
-    c .add-round-key .ensures ∙ to-zeros _ n ∙ ap (λ (w : List ℕ). block 16 w n) (c .before .round-keys .ensures .0)
+    let n = c .before .before .before .before .before .args .n in
+    c .write .ensures ∙ c .before .add-key .ensures ∙ to-zeros _ n ∙ ap (λ (w : List ℕ). block 16 w n) (c .before .before .round-keys .ensures .0)
 
 pub round-key-spec : {M : Type 1} → statement M
-round-key-spec = tie.close (tie.spec (λ c κs. search needs) (λ c κs. search needs) returns)
+round-key-spec = tie.close (tie.spec (λ c κs. search needs) (λ c κs. search needs) (λ c κs. search needs) returns)

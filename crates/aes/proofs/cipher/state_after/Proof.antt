@@ -1,4 +1,4 @@
--- `aes::cipher::state_after` meets its contract: the context holds the S-box and the key's schedule.
+-- `aes::cipher::state_after` meets its contract: the context holds the round table and the key's schedule.
 -- Assumes nothing.
 use mathlib.Core.Path.{ap, _∙_}
 use mathlib.Core.List.{List}
@@ -10,8 +10,8 @@ use Rattle.aes.proofs.cipher.state_after.Tie as tie
 
 returns : tie.Need-returns
 returns c =
-    let at-start = c .before .before .before .before .before in
-    c .full-rounds .ensures ∙ ap (λ (w : List ℕ). rounds w (at-start .args .n) (at-start .args .block)) (c .before .round-keys .ensures .0)
+    let at-start = c .before .before .before .before .before .before in
+    c .write .ensures ∙ c .before .full-rounds .ensures ∙ ap (λ (w : List ℕ). rounds w (at-start .args .n) (at-start .args .block)) (c .before .before .round-keys .ensures .0)
 
 pub state-after-spec : {M : Type 1} → statement M
-state-after-spec = tie.close (tie.spec (λ c κs. search needs) (λ c κs. search needs) (λ c κs. search needs) returns)
+state-after-spec = tie.close (tie.spec (λ c κs. search needs) (λ c κs. search needs) (λ c κs. search needs) (λ c κs. search needs) returns)

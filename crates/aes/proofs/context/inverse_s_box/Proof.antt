@@ -1,4 +1,4 @@
--- `aes::context::inverse_s_box` meets its contract: the inverse S-box stands after the S-box.
+-- `aes::context::inverse_s_box` meets its contract: the inverse S-box stands after the round tables.
 -- Assumes nothing.
 use native.Mathlib.Omega.{arith}
 use borrow.Author.Needs.{needs}

@@ -16,8 +16,8 @@ schedule-long : (c : tie.Start) → ((i : ℕ) → getD (c .args .key .now) i 0 
 schedule-long c b = keyExpansion-octets (c .args .key .now) (bytes-of (c .args .key .now) b) (key-words _ (c .pre .0)) .size
 
 parts : (c : tie.After-rounds-of) →
-    (take (528 + 16 * c .rounds-of .result - 512) (drop 512 (c .before .before .before .args .ctx .now)) ≡ keyExpansion (c .before .before .before .args .key .now))
-    × (528 + 16 * c .rounds-of .result ≤ length (c .before .before .before .args .ctx .now))
+    (take (4368 + 16 * c .rounds-of .result - 4352) (drop 4352 (c .before .before .before .args .ctx .now)) ≡ keyExpansion (c .before .before .before .args .key .now))
+    × (4368 + 16 * c .rounds-of .result ≤ length (c .before .before .before .args .ctx .now))
 parts c =
     let at-start = c .before .before .before in
     context-keys _ _ (at-start .pre .1) (schedule-long at-start (λ i. c .before .before .shared-slice-known .given i .fits)) _ (c .rounds-of .ensures .0)

@@ -1,6 +1,6 @@
 -- `aes::context::set_key` meets its contract, by those of the functions that it calls.
 -- Assumes nothing.
-use mathlib.Core.Path.{_≡_, refl, sym, _∙_}
+use mathlib.Core.Path.{_≡_, sym, _∙_}
 use mathlib.Core.Bool.{true}
 use borrow.Author.Needs.{needs}
 use Rattle.aes.specs.Schedule.{isKey}
@@ -22,4 +22,4 @@ returns-2 c =
     (sym h, sym (keyed-bad _ _ h))
 
 pub set-key-spec : {M : Type 1} → statement M
-set-key-spec = tie.close (tie.spec (λ c κs. search needs) (λ c κs. (good (c .before .before), (refl, refl))) returns returns-2)
+set-key-spec = tie.close (tie.spec (λ c κs. search needs) (λ c κs. search needs) (λ c κs. (good (c .before .before), (search needs, c .before .blank .ensures))) returns returns-2)

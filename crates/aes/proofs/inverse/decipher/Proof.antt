@@ -8,4 +8,4 @@ returns : tie.Need-returns
 returns c = cc
 
 pub decipher-spec : {M : Type 1} → statement M
-decipher-spec = tie.close (tie.spec (λ c κs. search needs) (λ c κs. search needs) (λ c κs. search needs) returns)
+decipher-spec = tie.close (tie.spec (λ c κs. search needs) (λ c κs. search needs) (λ c κs. search needs) (λ c κs. search needs) returns)

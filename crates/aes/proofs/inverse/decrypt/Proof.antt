@@ -11,4 +11,5 @@ returns c = invCipher-at _ _ _ _ _ (c .before .before .round-keys .ensures .0) (
 pub decrypt-spec : {M : Type 1} → statement M
 decrypt-spec =
     tie.close
-    (tie.spec (λ c κs. search needs) (λ c κs. search needs) (λ c κs. search needs) (λ c κs. search needs) returns)
+    (tie.spec (λ c κs. search needs) (λ c κs. search needs) (λ c κs. search needs) (λ c κs. search needs) (λ c κs. (c .before .before .before .inverse-s-box .ensures, (c .before .before .inverse-table .ensures, search needs)))
+    returns)

@@ -8,15 +8,16 @@ use native.Mathlib.Nat.{le-antisymm}
 use borrow.Author.Needs.{needs}
 use Rattle.aes.specs.Steps.{addRoundKey}
 use Rattle.aes.specs.Cipher.{invRounds}
+use Rattle.aes.specs.Words.{blockOf}
 use Rattle.aes.proofs.CipherLaws.{invRounds-more}
 use Rattle.aes.proofs.inverse.full_inv_rounds.Statement.{statement}
 use Rattle.aes.proofs.inverse.full_inv_rounds.Tie as tie
 
 abbrev Inv-loop : tie.InvT-loop
-Inv-loop t w nr s₀ i₀ s i = (i ≤ nr - 1) × ((b : List ℕ) → s₀ ≡ addRoundKey w nr b → s ≡ invRounds w nr i b)
+Inv-loop t u w nr k₀ i₀ k i = (i ≤ nr - 1) × ((b : List ℕ) → blockOf k₀ ≡ addRoundKey w nr b → blockOf k ≡ invRounds w nr i b)
 
 abbrev μ-loop : tie.MeasureT-loop
-μ-loop t w nr s₀ i₀ s i = nr - 1 - i
+μ-loop t u w nr k₀ i₀ k i = nr - 1 - i
 
 loop-holds : tie.Need-loop-holds Inv-loop μ-loop
 unfolding invRounds
@@ -30,8 +31,8 @@ loop-again c =
 returns : tie.Need-returns Inv-loop μ-loop
 returns c =
     let at-loop = c .before in
-    let at-start = at-loop .before .before .before .before in
-    at-loop .loop .inv .1 (at-start .args .block) (at-loop .before .add-round-key .ensures)
+    let at-start = at-loop .before .before .before .before .before .before in
+    at-loop .loop .inv .1 (at-start .args .block) (at-loop .before .add-key .ensures ∙ ap (addRoundKey (at-start .args .w .now) (at-start .args .nr)) (at-loop .before .before .read .ensures))
     ∙ ap (λ (n : ℕ). invRounds (at-start .args .w .now) (at-start .args .nr) n (at-start .args .block)) (le-antisymm (at-loop .loop .inv .0) (c .loop-test .left))
 
 pub full-inv-rounds-spec : {M : Type 1} → statement M
@@ -41,11 +42,12 @@ full-inv-rounds-spec =
     Inv-loop
     μ-loop
     (λ c κs. search needs)
+    (λ c κs. search needs)
     loop-holds
     (λ c. search needs)
     (λ c. search needs)
     (λ c. search needs)
-    (λ c κs. search needs)
+    (λ c κs. let p = c .before .before .before .before .before .before .before .pre in (p .0, (p .1 .0, search needs)))
     (λ c. search needs)
     (λ c. search needs)
     loop-again

@@ -1,30 +1,29 @@
 -- `aes::schedule::expand` meets its contract: after m turns the key's words and m more are written, and what follows them
 -- is as it was.
 -- Assumes nothing.
-use mathlib.Core.Path.{_≡_, refl, sym, ap, _∙_}
-use mathlib.Core.List.{List, _++_}
-use Prim.Native.Nat.{ℕ, zero, suc, _+_, _*_, _/_, _-_, _≤_}
-use native.Mathlib.Omega.{arith}
-use lib.ListN.{length, drop}
+use mathlib.Core.Path.{_≡_, _∙_}
+use Prim.Native.Nat.{_+_, _*_, _-_, _/_}
+use native.Mathlib.Nat.{div-le-self}
+use lib.ListN.{length}
 use borrow.Author.Needs.{needs}
-use Rattle.aes.specs.Schedule.{expanded, keyExpansion}
-use Rattle.aes.proofs.ScheduleLaws.{Expanding, KeyWords, key-words, expand-none, expand-turn, expand-all}
+use Rattle.aes.proofs.ScheduleLaws.{Expanding, key-words, placed, expand-none, expand-turn, expand-all}
 use Rattle.aes.proofs.schedule.expand.Statement.{statement}
 use Rattle.aes.proofs.schedule.expand.Tie as tie
 
 abbrev Inv-loop : tie.InvT-loop
-Inv-loop key s w₀ nk m₀ w m = Expanding key w₀ nk w m
+Inv-loop key s w₀ nk r m₀ w m = Expanding key w₀ nk w m
 
 abbrev μ-loop : tie.MeasureT-loop
-μ-loop key s w₀ nk m₀ w m = 3 * nk + 28 - m
+μ-loop key s w₀ nk r m₀ w m = 3 * nk + 28 - m
 
 again : tie.Need-loop-again Inv-loop μ-loop
 again c =
-    let at-next = c .before .before .before .before .before in
-    let l : length (at-next .next-word .result) ≡ 4 = search needs in
-    expand-turn (at-next .next-word .result) (c .before .before .put2 .last .0) (at-next .before .before .before .loop .inv)
+    let at-split = c .before .before .before .before .before in
+    let at-next = at-split .before in
+    let l : length (at-split .split .result) ≡ 4 = search needs in
+    expand-turn (at-split .split .result) (c .before .before .put2 .last .0) (at-next .before .before .before .loop .inv)
     (at-next .before .before .loop-test .taken)
-    (at-next .next-word .ensures)
+    (at-split .split .ensures ∙ at-next .next-word .ensures)
     l
     (c .before .before .put2 .ensures)
     (c .before .w2 .given .1)
@@ -40,11 +39,14 @@ expand-spec =
     (tie.spec
     Inv-loop
     μ-loop
+    (λ c. let k = key-words _ (c .before .before .before .pre .0) in search needs)
+    (λ c. let h = div-le-self 255 (length (c .before .before .before .args .key .now) / 4) in search needs)
     (λ c κs. let k = key-words _ (c .before .before .before .before .pre .0) in search needs)
     (λ c. expand-none _ _ _ (c .before .before .before .before .before .before .before .pre .0) (c .before .before .before .before .before .before .before .pre .1 .1) (search needs) (c .before .before .put .ensures))
     (λ c. search needs)
     (λ c. search needs)
     (λ c. search needs)
+    (λ c κs. (search needs, (placed (c .before .before .loop .inv) (c .before .loop-test .taken), search needs)))
     (λ c κs. search needs)
     (λ c. search needs)
     (λ c. search needs)

@@ -1,8 +1,8 @@
 -- `aes::schedule::power_of` meets its contract: the ten entries of the table are computed.
 -- Assumes nothing.
-use mathlib.Core.Path.{_≡_, ap}
+use mathlib.Core.Path.{ap}
 use mathlib.Core.List.{List, [], _∷_}
-use Prim.Native.Nat.{ℕ, _<_}
+use Prim.Native.Nat.{ℕ}
 use lib.Dec.{T}
 use lib.ListN.{getD}
 use borrow.Author.Needs.{needs}

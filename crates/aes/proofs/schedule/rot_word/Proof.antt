@@ -1,15 +1,15 @@
 -- `aes::schedule::rot_word` meets its contract.
 -- Assumes nothing.
-use mathlib.Core.Path.{refl}
 use borrow.Author.Needs.{needs}
 use Rattle.octets.specs.Strings.{table}
 use Rattle.aes.specs.Schedule.{rotWord}
+use Rattle.aes.proofs.WordLaws.{rotated-bytes}
 use Rattle.aes.proofs.schedule.rot_word.Statement.{statement}
 use Rattle.aes.proofs.schedule.rot_word.Tie as tie
 
 returns : tie.Need-returns
 unfolding table rotWord
-returns c = refl
+returns c = rotated-bytes (c .args .x) (search needs)
 
 pub rot-word-spec : {M : Type 1} → statement M
-rot-word-spec = tie.close (tie.spec (λ c. search needs) (λ c. search needs) (λ c. search needs) (λ c. search needs) returns)
+rot-word-spec = tie.close (tie.spec (λ c. search needs) (λ c. search needs) returns)

@@ -1,9 +1,10 @@
 -- `mode::offsets::step` meets its contract: each half by its multiplier.
 -- Assumes nothing.
-use mathlib.Core.Path.{_≡_, _∙_}
+use mathlib.Core.Path.{_≡_, ap, _∙_}
 use lib.ListN.{length}
 use borrow.Author.Needs.{needs}
-use Rattle.mode.proofs.OffsetLaws.{F-halves}
+use Rattle.mode.specs.Offsets.{F}
+use Rattle.mode.proofs.OffsetLaws.{halves-back, F-halves}
 use Rattle.mode.proofs.offsets.step.Statement.{statement}
 use Rattle.mode.proofs.offsets.step.Tie as tie
 
@@ -13,7 +14,8 @@ returns c =
     let p = q .before .before in
     let l : length (p .before .before .args .d) ≡ 16 = search needs in
     c .pair .ensures
-    ∙ F-halves _ _ _ _ _ _ _ l (p .before .half .ensures) (q .before .half2 .ensures) (p .multiple .ensures) (q .multiple2 .ensures)
+    ∙ F-halves _ _ _ _ _ _ (p .multiple .ensures) (q .multiple2 .ensures)
+    ∙ ap (F _ _) (halves-back _ _ _ l (p .before .half .ensures) (q .before .half2 .ensures))
 
 pub step-spec : {M : Type 1} → statement M
 step-spec =

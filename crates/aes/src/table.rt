@@ -1,0 +1,79 @@
+// The steps of a round by table, on words.
+use crate::words::Words;
+use crate::words::first;
+use crate::words::fourth;
+use crate::words::join;
+use crate::words::second;
+use crate::words::third;
+use crate::words::word_at;
+ghost use mathlib.Core.Path.{_≡_};
+ghost use mathlib.Core.List.{[], _∷_};
+ghost use Prim.Native.Nat.{_*_, _/_, _%_, _≤_, suc};
+ghost use lib.ListN.{length};
+ghost use Rattle.field.specs.SBox.{sBox};
+ghost use Rattle.field.specs.Round.{entry};
+ghost use Rattle.aes.specs.Steps.{subBytes, shiftRows, mixColumns, addRoundKey};
+ghost use Rattle.aes.specs.Words.{bytesOf, blockOf, addedUp, Entries};
+
+// A column under a matrix, by its table: its rows come from four words.
+pub fn mixed(t: &[u8], a: u32, b: u32, c: u32, d: u32) -> u32
+    requires { ⌜ length (now t) ≡ 2048 ⌝ }
+    ensures { λ r. ⌜ bytesOf r ≡ addedUp (now (t .entry)) (a % 256) (b / 256 % 256) (c / 65536 % 256) (d / 16777216 % 256) ⌝ }
+{
+    let p = word_at(t, 8 * first(a) as usize);
+    let q = word_at(t, 8 * second(b) as usize + 3);
+    let u = word_at(t, 8 * third(c) as usize + 2);
+    let v = word_at(t, 8 * fourth(d) as usize + 1);
+    ((p ^ q) ^ u) ^ v
+}
+
+// SubBytes, ShiftRows, MixColumns.
+pub fn mix(t: &[u8], k: Words) -> Words
+    requires { ⌜ Entries entry (now t) ⌝ }
+    ensures { λ r. ⌜ blockOf r ≡ mixColumns (shiftRows (subBytes (blockOf k))) ⌝ }
+{
+    Words {
+        a: mixed(t, k.a, k.b, k.c, k.d),
+        b: mixed(t, k.b, k.c, k.d, k.a),
+        c: mixed(t, k.c, k.d, k.a, k.b),
+        d: mixed(t, k.d, k.a, k.b, k.c),
+    }
+}
+
+// SubBytes of a column, whose rows come from four words: the second byte of an entry is the S-box's.
+fn shifted(t: &[u8], a: u32, b: u32, c: u32, d: u32) -> u32
+    requires { ⌜ Entries entry (now t) ⌝ }
+    ensures { λ r. ⌜ bytesOf r ≡ sBox (a % 256) ∷ sBox (b / 256 % 256) ∷ sBox (c / 65536 % 256) ∷ sBox (d / 16777216 % 256) ∷ [] ⌝ }
+{
+    let p = t[8 * first(a) as usize + 1];
+    let q = t[8 * second(b) as usize + 1];
+    let u = t[8 * third(c) as usize + 1];
+    let v = t[8 * fourth(d) as usize + 1];
+    join(p, q, u, v)
+}
+
+// SubBytes, ShiftRows.
+pub fn shift(t: &[u8], k: Words) -> Words
+    requires { ⌜ Entries entry (now t) ⌝ }
+    ensures { λ r. ⌜ blockOf r ≡ shiftRows (subBytes (blockOf k)) ⌝ }
+{
+    Words {
+        a: shifted(t, k.a, k.b, k.c, k.d),
+        b: shifted(t, k.b, k.c, k.d, k.a),
+        c: shifted(t, k.c, k.d, k.a, k.b),
+        d: shifted(t, k.d, k.a, k.b, k.c),
+    }
+}
+
+// AddRoundKey, with round key n of the schedule w.
+pub fn add_key(w: &[u8], n: usize, k: Words) -> Words
+    requires { ⌜ 16 * suc n ≤ length (now w) ⌝ }
+    ensures { λ r. ⌜ blockOf r ≡ addRoundKey (now (w .entry)) n (blockOf k) ⌝ }
+{
+    Words {
+        a: k.a ^ word_at(w, 16 * n),
+        b: k.b ^ word_at(w, 16 * n + 4),
+        c: k.c ^ word_at(w, 16 * n + 8),
+        d: k.d ^ word_at(w, 16 * n + 12),
+    }
+}
