@@ -12,11 +12,11 @@ use Rattle.octets.specs.Strings.{table}
 use Rattle.octets.proofs.Strings.{length-table}
 use Rattle.octets.proofs.Parts.{put-more}
 use Rattle.field.specs.SBox.{invSBox}
-use Rattle.field.specs.Round.{entry, inverseEntry, entries, tables}
-use Rattle.field.proofs.RoundLaws.{length-entry, length-inverseEntry, length-entries}
-use Rattle.aes.specs.Schedule.{isKey, keyExpansion}
-use Rattle.aes.specs.Words.{Entries}
-use Rattle.aes.proofs.WordLaws.{table-entries}
+use Rattle.tables.specs.Round.{entry, inverseEntry, entries, tables}
+use Rattle.tables.proofs.RoundLaws.{length-entry, length-inverseEntry, length-entries}
+use Rattle.fips197.specs.Schedule.{isKey, keyExpansion}
+use Rattle.aes.specs.Tables.{Entries}
+use Rattle.aes.proofs.TableLaws.{table-entries}
 use Rattle.aes.specs.Context.{blankContext, contextOf, keyed, answer, answered}
 
 length-tables : length tables ≡ 4096

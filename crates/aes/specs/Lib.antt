@@ -1,6 +1,2 @@
-pub mod State
-pub mod Steps
-pub mod Schedule
-pub mod Cipher
+pub mod Tables
 pub mod Context
-pub mod Words

@@ -6,19 +6,20 @@ use crate::context::rounds_of;
 use crate::table::add_key;
 use crate::table::mix;
 use crate::table::shift;
-use crate::words::Words;
-use crate::words::read;
-use crate::words::write;
+use key_schedule::Words;
+use key_schedule::read;
+use key_schedule::write;
 ghost use mathlib.Core.Path.{_≡_};
 ghost use mathlib.Core.Bool.{true};
 ghost use Prim.Native.Nat.{_*_, _≤_, _<_, suc};
 ghost use lib.ListN.{length};
 ghost use Rattle.octets.specs.Blocks.{block};
-ghost use Rattle.field.specs.Round.{entry};
-ghost use Rattle.aes.specs.Schedule.{isKey, keyExpansion};
-ghost use Rattle.aes.specs.Cipher.{fullRound, rounds, cipher, cipherOver, keyRounds};
+ghost use Rattle.tables.specs.Round.{entry};
+ghost use Rattle.fips197.specs.Schedule.{isKey, keyExpansion};
+ghost use Rattle.fips197.specs.Cipher.{fullRound, rounds, cipher, cipherOver, keyRounds};
 ghost use Rattle.aes.specs.Context.{contextOf};
-ghost use Rattle.aes.specs.Words.{blockOf, Entries};
+ghost use Rattle.key_schedule.specs.Words.{blockOf};
+ghost use Rattle.aes.specs.Tables.{Entries};
 
 // A full round, with round key n.
 fn full_round(t: &[u8], w: &[u8], n: usize, k: Words) -> Words

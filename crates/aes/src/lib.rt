@@ -5,9 +5,7 @@
 mod cipher;
 mod context;
 mod inverse;
-mod schedule;
 mod table;
-mod words;
 
 pub use cipher::encrypt;
 pub use cipher::round_key;
@@ -18,7 +16,7 @@ pub use context::fill;
 pub use context::set_key;
 pub use inverse::decrypt;
 ghost use mathlib.Core.Path.{_≡_};
-ghost use Rattle.aes.specs.Cipher.{cipher, invCipher};
+ghost use Rattle.fips197.specs.Cipher.{cipher, invCipher};
 ghost use Rattle.aes.specs.Context.{answer, answered};
 
 // Encrypts a block in place and answers 0, or answers 2 and leaves the block where the key has

@@ -1,19 +1,20 @@
 // The steps of a round by table, on words.
-use crate::words::Words;
-use crate::words::first;
-use crate::words::fourth;
-use crate::words::join;
-use crate::words::second;
-use crate::words::third;
-use crate::words::word_at;
+use key_schedule::Words;
+use key_schedule::first;
+use key_schedule::fourth;
+use key_schedule::join;
+use key_schedule::second;
+use key_schedule::third;
+use key_schedule::word_at;
 ghost use mathlib.Core.Path.{_≡_};
 ghost use mathlib.Core.List.{[], _∷_};
 ghost use Prim.Native.Nat.{_*_, _/_, _%_, _≤_, suc};
 ghost use lib.ListN.{length};
 ghost use Rattle.field.specs.SBox.{sBox};
-ghost use Rattle.field.specs.Round.{entry};
-ghost use Rattle.aes.specs.Steps.{subBytes, shiftRows, mixColumns, addRoundKey};
-ghost use Rattle.aes.specs.Words.{bytesOf, blockOf, addedUp, Entries};
+ghost use Rattle.tables.specs.Round.{entry};
+ghost use Rattle.fips197.specs.Steps.{subBytes, shiftRows, mixColumns, addRoundKey};
+ghost use Rattle.key_schedule.specs.Words.{bytesOf, blockOf};
+ghost use Rattle.aes.specs.Tables.{addedUp, Entries};
 
 // A column under a matrix, by its table: its rows come from four words.
 pub fn mixed(t: &[u8], a: u32, b: u32, c: u32, d: u32) -> u32

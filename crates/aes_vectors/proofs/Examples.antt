@@ -8,10 +8,10 @@ use Rattle.octets.specs.Xor.{xors}
 use Rattle.octets.specs.Numbers.{digits}
 use Rattle.field.specs.Field.{xtime, mulBits, mul, dot, squares, inverse}
 use Rattle.field.specs.SBox.{bitsOf, affine, invAffine, sBox, invSBox}
-use Rattle.aes.specs.State.{at, state}
-use Rattle.aes.specs.Steps.{subBytes, shiftRows, timesMatrix, mixColumns, addRoundKey, invShiftRows, invSubBytes, invMixColumns}
-use Rattle.aes.specs.Schedule.{subWord, rotWord, power, rcon, temp, expanded, keyExpansion}
-use Rattle.aes.specs.Cipher.{rounds, invRounds, cipher, invCipher}
+use Rattle.fips197.specs.State.{at, state}
+use Rattle.fips197.specs.Steps.{subBytes, shiftRows, timesMatrix, mixColumns, addRoundKey, invShiftRows, invSubBytes, invMixColumns}
+use Rattle.fips197.specs.Schedule.{subWord, rotWord, power, rcon, temp, expanded, keyExpansion}
+use Rattle.fips197.specs.Cipher.{rounds, invRounds, cipher, invCipher}
 
 -- section 4.2: {57} • {83} = {c1}; section 4.2.1: {57} • {13} = {fe}
 product : mul 0x57 0x83 ≡ 0xc1

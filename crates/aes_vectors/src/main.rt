@@ -11,8 +11,8 @@ use libc::STDOUT_FILENO;
 ghost use mathlib.Core.Path.{_≡_};
 ghost use mathlib.Core.Bool.{true};
 ghost use Prim.Native.Nat.{_≤_, _<_};
-ghost use Rattle.aes.specs.Schedule.{isKey};
-ghost use Rattle.aes.specs.Cipher.{keyRounds};
+ghost use Rattle.fips197.specs.Schedule.{isKey};
+ghost use Rattle.fips197.specs.Cipher.{keyRounds};
 ghost use Rattle.aes.specs.Context.{contextOf};
 
 fn print_block(s: [u8; 16]) {

@@ -9,8 +9,8 @@ use borrow.Author.Tests.{eq-eqb, ne-eqb, eqb-true, lt-ltb, le-ltb, ltb-false, le
 use lib.Dec.{T, eqb, ltb, leb}
 use lib.ListN.{length, getD, drop, replicate}
 use Rattle.octets.proofs.Tests.{agree, same}
-use Rattle.aes.specs.Schedule.{isKey}
-use Rattle.aes.specs.Cipher.{cipher, invCipher}
+use Rattle.fips197.specs.Schedule.{isKey}
+use Rattle.fips197.specs.Cipher.{cipher, invCipher}
 use Rattle.cba.specs.declared.sets.Parameters.{Parameters}
 use Rattle.cba.specs.declared.sets.Set.{Set}
 use Rattle.cba.specs.declared.sets.Set.the-variants.{Known, Unknown}

@@ -13,8 +13,8 @@ use lib.Seq.{take-at, drop-at}
 use Rattle.octets.specs.Strings.{Bytes, Octets}
 use Rattle.octets.specs.Count.{count}
 use Rattle.octets.proofs.Count.{count-scheme}
-use Rattle.aes.specs.Cipher.{cipher, invCipher}
-use Rattle.aes.proofs.Inverses.{inverses}
+use Rattle.fips197.specs.Cipher.{cipher, invCipher}
+use Rattle.fips197.proofs.Inverses.{inverses}
 use Rattle.mode.specs.Sets.{isSet, keyBytes, tagBits, capacity}
 use Rattle.mode.specs.Open.{Opened, isFalse, messageOf, DEC}
 use Rattle.mode.specs.Open.Opened.{opened, refused}

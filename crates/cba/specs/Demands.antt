@@ -10,7 +10,7 @@ use lib.Dec.{eqb}
 use lib.ListN.{length, take, drop, replicate}
 use Rattle.octets.specs.Strings.{Bytes, Octets}
 use Rattle.octets.specs.Count.{count}
-use Rattle.aes.specs.Cipher.{cipher, invCipher}
+use Rattle.fips197.specs.Cipher.{cipher, invCipher}
 use Rattle.mode.specs.Sets.{isSet, keyBytes, tagBits, capacity}
 use Rattle.mode.specs.Seal.{ENC}
 use Rattle.mode.specs.Open.{DEC}

@@ -6,7 +6,7 @@ use mathlib.Core.List.{List, [], _∷_, _++_}
 use Prim.Native.Nat.{ℕ, _+_, _-_}
 use lib.Dec.{eqb, ltb}
 use lib.ListN.{length, drop, replicate}
-use Rattle.aes.specs.Cipher.{cipher, invCipher}
+use Rattle.fips197.specs.Cipher.{cipher, invCipher}
 use Rattle.mode.specs.Sets.{isSet, keyBytes, tagBits, tagBytes, capacity}
 use Rattle.mode.specs.Seal.{ENC}
 use Rattle.mode.specs.Open.{Opened, isFalse, messageOf, DEC}

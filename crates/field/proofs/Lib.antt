@@ -1,3 +1,2 @@
 pub mod Rules
 pub mod Columns
-pub mod RoundLaws

@@ -1,3 +1,2 @@
 pub mod Field
 pub mod SBox
-pub mod Round

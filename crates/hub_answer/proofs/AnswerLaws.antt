@@ -53,6 +53,14 @@ pub record Calls (q : Request) (r : ℕ) (out : List ℕ) : Type 0 where
   pub sized : r ≡ 0 → Sized (q .seals) (q .set) (length (q .text))
   pub result-is : r ≡ 0 → take (resultLength q) out ≡ requestResult q
 
+-- its strings are the parts that were cut out
+module _ (q : Request) {key N A text out : List ℕ} {r : ℕ} {out′ : List ℕ} (k : key ≡ q .key) (n : N ≡ q .nonce) (h : A ≡ q .header) (t : text ≡ q .text) where
+  pub called-seal : q .seals ≡ true → SealCall (q .set) key N A text out r out′ → Called q out r out′
+  called-seal e w = record { sealed = λ s. rw (← k, ← n, ← h, ← t) w; opened = λ s. absurd (subst T (sym e ∙ s) tt) }
+
+  pub called-open : q .seals ≡ false → OpenCall (q .set) key N A text out r out′ → Called q out r out′
+  called-open e w = record { sealed = λ s. absurd (subst T (sym s ∙ e) tt); opened = λ s. rw (← k, ← n, ← h, ← t) w }
+
 module _ (q : Request) (w : Writable q) (out : List ℕ) (h : length (q .text) + 16 ≤ length out) (r : ℕ) (out′ : List ℕ) where
   abbrev Seals : Type 0
   Seals = SealCall (q .set) (q .key) (q .nonce) (q .header) (q .text) out r out′

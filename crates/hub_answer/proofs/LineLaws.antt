@@ -2,7 +2,7 @@
 -- Assumes nothing.
 use mathlib.Core.Path.{_≡_, sym, ap, subst, _∙_}
 use mathlib.Core.List.{List, [], _∷_, _++_, append-assoc}
-use Prim.Native.Nat.{ℕ, _+_, _-_, _≤_}
+use Prim.Native.Nat.{ℕ, _+_, _-_, _*_, _≤_}
 use native.Mathlib.Omega.{arith}
 use lib.ListN.{length, take, drop, length-append, length-take, length-drop}
 use Rattle.octets.proofs.Parts.{put-more}
@@ -33,3 +33,19 @@ line-is n a s = simp append-assoc
 
 pub line-written : (n a r : ℕ) (s d out : List ℕ) → Puts (((decimal n ++ (32 ∷ decimal a)) ++ (32 ∷ shown s)) ++ (10 ∷ [])) r d out → Puts (lineText n a s) r d out
 line-written n a r s d out w = subst (λ (t : List ℕ). Puts t r d out) (line-is n a s) w
+
+-- a line's strings go in, one after the other: m is how long the output is by then
+module _ (n : ℕ) {d a b c : ℕ} (h : 2 * n + 12 ≤ d) (p : a ≤ 4) (q : b ≤ 5) (r : c ≤ 2 * n + 2) {m : ℕ} (e : m ≡ d) where
+  pub room-two : a + b ≤ m
+  room-two = omega (arith, h, p, q, e)
+
+  pub room-three : a + b + c ≤ m
+  room-three = omega (arith, h, p, q, r, e)
+
+  pub room-four : {k : ℕ} → k ≡ 1 → a + b + c + k ≤ m
+  room-four f = omega (arith, h, p, q, r, e, f)
+
+-- the output is as long as before after a second string
+pub same-after : (out last : List ℕ) (i j : ℕ) → i + j ≤ length out → length last ≡ length (take (length out - i) (drop i out)) →
+    length (take i out ++ (last ++ drop (length out - i) (drop i out))) ≡ length out
+same-after out last i j h l = middle-length out last i (omega (arith, h)) l

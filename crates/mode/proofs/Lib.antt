@@ -1,7 +1,5 @@
 pub mod Examples
 pub mod OffsetLaws
-pub mod StartLaws
-pub mod DataLaws
 pub mod FormLaws
 pub mod SealLaws
 pub mod Reference

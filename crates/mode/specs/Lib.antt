@@ -1,6 +1,5 @@
 pub mod Sets
 pub mod Offsets
-pub mod Halves
 pub mod Data
 pub mod Forms
 pub mod Seal

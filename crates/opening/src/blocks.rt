@@ -1,7 +1,7 @@
 // The full blocks of a ciphertext, one loop for the joined and the separate form.
-use mode::doubled;
-use mode::split;
-use mode::whole;
+use mode_steps::doubled;
+use mode_steps::split;
+use mode_steps::whole;
 use sealing::Running;
 ghost use mathlib.Core.Path.{_≡_};
 ghost use mathlib.Core.Bool.{true};
@@ -9,8 +9,8 @@ ghost use mathlib.Core.List.{_++_};
 ghost use Prim.Native.Nat.{_*_, _≤_};
 ghost use lib.ListN.{length, drop};
 ghost use Rattle.octets.specs.Xor.{xors};
-ghost use Rattle.aes.specs.Schedule.{isKey};
-ghost use Rattle.aes.specs.Cipher.{cipher, invCipher};
+ghost use Rattle.fips197.specs.Schedule.{isKey};
+ghost use Rattle.fips197.specs.Cipher.{cipher, invCipher};
 ghost use Rattle.aes.specs.Context.{contextOf};
 ghost use Rattle.mode.specs.Offsets.{offset};
 ghost use Rattle.mode.specs.Seal.{checksum};

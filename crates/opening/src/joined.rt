@@ -1,8 +1,8 @@
 // The joined form after C_0: the last block and the tag come out of one block.
 use crate::blocks::plain_blocks;
 use crate::compare::same;
-use mode::pad;
-use mode::step;
+use mode_steps::pad;
+use mode_steps::step;
 use sealing::Running;
 use sealing::mask;
 ghost use mathlib.Core.Path.{_≡_};
@@ -12,8 +12,8 @@ ghost use Prim.Native.Nat.{_+_, _-_, _*_, _/_, _≤_, _<_};
 ghost use lib.ListN.{length, take, drop};
 ghost use Rattle.octets.specs.Strings.{eqs};
 ghost use Rattle.octets.specs.Xor.{xors};
-ghost use Rattle.aes.specs.Schedule.{isKey};
-ghost use Rattle.aes.specs.Cipher.{cipher, invCipher};
+ghost use Rattle.fips197.specs.Schedule.{isKey};
+ghost use Rattle.fips197.specs.Cipher.{cipher, invCipher};
 ghost use Rattle.aes.specs.Context.{contextOf};
 ghost use Rattle.mode.specs.Sets.{tagBytes};
 ghost use Rattle.mode.specs.Offsets.{lastBytes, butLast};

@@ -11,8 +11,20 @@ use lib.Seq.{take-all}
 use Rattle.octets.specs.Xor.{xors}
 use Rattle.octets.specs.Blocks.{block}
 use Rattle.octets.proofs.Parts.{put-at, put-more}
+use Rattle.mode.specs.Sets.{tagBytes}
 use Rattle.mode.specs.Offsets.{F, offset, leading}
 use Rattle.mode.specs.Seal.{checksum, cipherBlocks}
+
+-- a part from the front that is there
+pub take-size : (n : ℕ) (s : List ℕ) → n ≤ length s → length (take n s) ≡ n
+take-size n s h = length-take n s ∙ omega arith
+
+-- a tag is shorter than a block
+pub tag-fits : {τ : ℕ} → τ < 128 → tagBytes τ ≤ 16
+tag-fits h = omega arith
+
+pub tag-taken : (τ : ℕ) (e : List ℕ) → τ < 128 → length e ≡ 16 → length (take (tagBytes τ) e) ≡ tagBytes τ
+tag-taken τ e h l = take-size (tagBytes τ) e (omega arith)
 
 -- a string put at the end of another
 pub put-end : (out : List ℕ) (at : ℕ) (t last : List ℕ) → at + length t ≡ length out →

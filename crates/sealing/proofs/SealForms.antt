@@ -2,7 +2,7 @@
 -- Assumes nothing.
 use mathlib.Core.Path.{_≡_, refl, sym, ap, ap₂, _∙_}
 use mathlib.Core.List.{List, _++_}
-use Prim.Native.Nat.{ℕ, _+_, _-_, _/_, _≤_}
+use Prim.Native.Nat.{ℕ, _+_, _-_, _/_, _<_, _≤_}
 use native.Mathlib.Omega.{arith}
 use lib.ListN.{length, take, drop, length-take, length-drop, replicate, length-replicate}
 use lib.Seq.{take-all, drop-at}
@@ -13,7 +13,7 @@ use Rattle.mode.specs.Forms.Form.{short, joined, separate}
 use Rattle.mode.specs.Offsets.{F, pad, leading}
 use Rattle.mode.specs.Data.{tagOfData}
 use Rattle.mode.specs.Seal.{Δ₀, masked, shortTag, T, joinedTail, separateTail, sealAs, ENC}
-use Rattle.sealing.proofs.PieceLaws.{then}
+use Rattle.sealing.proofs.PieceLaws.{then, take-size}
 use Rattle.sealing.proofs.TailLaws.{to-end}
 use Rattle.sealing.proofs.BeginLaws.{first-taken}
 
@@ -21,6 +21,26 @@ use Rattle.sealing.proofs.BeginLaws.{first-taken}
 pub part-sizes : (m whole : List ℕ) (l t : ℕ) → length whole ≡ 16 → t ≤ 16 →
     (length (take (length m - l) (drop l m)) ≡ length m - l) × (length (take (16 - (16 - t)) (drop (16 - t) whole)) ≡ t)
 part-sizes m whole l t w h = (ap length (to-end m l) ∙ length-drop l m, simp (length-take, length-drop) (omega arith))
+
+-- the first l bytes, and the parts that the tails are lent, where l and t are L and T, and n bytes may be written
+pub within : {l L n : ℕ} → l ≡ L → L < n → l ≤ n
+within e h = omega arith
+
+pub first-fits : (τ b l : ℕ) (m : List ℕ) (n : ℕ) → l ≡ ell τ b / 8 → ell τ b / 8 < length m → length m + tagBytes τ ≤ n → (length (take l m) ≤ tagBytes τ) × (length (take l m) ≤ n)
+first-fits τ b l m n e h r =
+    let s : length (take l m) ≡ l = take-size l m (within e h) in
+    (omega arith, omega arith)
+
+pub lent : (m whole out : List ℕ) {l t L T n : ℕ} → l ≡ L → t ≡ T → T ≤ 16 → length whole ≡ 16 → length out ≡ n → L < length m → length m + T ≤ n →
+    (length (take (length m - l) (drop l m)) ≡ length m - L) × (length (take (16 - (16 - t)) (drop (16 - t) whole)) ≡ T) × (0 < length m - L)
+    × (length m - L + T ≤ length (take (length out - l) (drop l out)))
+lent m whole out {l} {t} el et f w lo h r =
+    let s = part-sizes m whole l t w (omega arith) in
+    let o : length (take (length out - l) (drop l out)) ≡ length out - l = ap length (to-end out l) ∙ length-drop l out in
+    (s .0 ∙ ap (λ (k : ℕ). length m - k) el, s .1 ∙ et, omega arith, omega arith)
+
+pub two-blocks : {k : ℕ} → 1 ≤ (k - 1) / 16 → 16 < k
+two-blocks h = omega arith
 
 -- Before the tail of a message or ciphertext m goes over d, n bytes in all: its first l bytes do already, whole is T with zeros
 -- before it, which is over C_0, and l and t are ℓ and τ in bytes.

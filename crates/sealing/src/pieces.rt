@@ -1,15 +1,15 @@
 // Pieces that the forms of sealing are made of.
-use mode::doubled;
-use mode::split;
-use mode::whole;
+use mode_steps::doubled;
+use mode_steps::split;
+use mode_steps::whole;
 ghost use mathlib.Core.Path.{_≡_};
 ghost use mathlib.Core.Bool.{true};
 ghost use mathlib.Core.List.{_++_, _∷_};
 ghost use Prim.Native.Nat.{_+_, _*_, _≤_};
 ghost use lib.ListN.{length, take, drop};
 ghost use Rattle.octets.specs.Xor.{xors};
-ghost use Rattle.aes.specs.Schedule.{isKey};
-ghost use Rattle.aes.specs.Cipher.{cipher};
+ghost use Rattle.fips197.specs.Schedule.{isKey};
+ghost use Rattle.fips197.specs.Cipher.{cipher};
 ghost use Rattle.aes.specs.Context.{contextOf};
 ghost use Rattle.mode.specs.Offsets.{offset, leading};
 ghost use Rattle.mode.specs.Seal.{checksum, cipherBlocks};

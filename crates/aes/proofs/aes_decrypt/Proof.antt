@@ -3,8 +3,8 @@
 use mathlib.Core.Path.{_≡_, sym, _∙_}
 use mathlib.Core.Bool.{true}
 use borrow.Author.Needs.{needs}
-use Rattle.aes.specs.Schedule.{isKey}
-use Rattle.aes.specs.Cipher.{invCipher}
+use Rattle.fips197.specs.Schedule.{isKey}
+use Rattle.fips197.specs.Cipher.{invCipher}
 use Rattle.aes.proofs.ContextLaws.{keyed-good, answer-good, answer-bad, answered-good, answered-bad}
 use Rattle.aes.proofs.aes_decrypt.Statement.{statement}
 use Rattle.aes.proofs.aes_decrypt.Tie as tie

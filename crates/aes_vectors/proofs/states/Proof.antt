@@ -5,7 +5,7 @@ use mathlib.Core.Bool.{true}
 use Prim.Native.Nat.{_+_, _-_, _/_, _≤_}
 use lib.ListN.{length}
 use borrow.Author.Needs.{needs}
-use Rattle.aes.specs.Schedule.{isKey}
+use Rattle.fips197.specs.Schedule.{isKey}
 use Rattle.aes.specs.Context.{contextOf}
 use Rattle.aes.proofs.ContextLaws.{keyed-good}
 use Rattle.aes_vectors.proofs.states.Statement.{statement}

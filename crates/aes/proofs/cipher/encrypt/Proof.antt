@@ -1,7 +1,7 @@
 -- `aes::cipher::encrypt` meets its contract: the context holds the table and the schedule that the rounds read.
 -- Assumes nothing.
 use borrow.Author.Needs.{needs}
-use Rattle.aes.proofs.CipherLaws.{cipher-at}
+use Rattle.fips197.proofs.CipherLaws.{cipher-at}
 use Rattle.aes.proofs.cipher.encrypt.Statement.{statement}
 use Rattle.aes.proofs.cipher.encrypt.Tie as tie
 

@@ -9,7 +9,7 @@ use native.Mathlib.Nat.{le-refl}
 use borrow.Author.Needs.{needs}
 use Rattle.octets.specs.Blocks.{block}
 use Rattle.octets.proofs.Xor.{xors-zero}
-use Rattle.aes.specs.Steps.{addRoundKey}
+use Rattle.fips197.specs.Steps.{addRoundKey}
 use Rattle.aes.proofs.cipher.round_key.Statement.{statement}
 use Rattle.aes.proofs.cipher.round_key.Tie as tie
 

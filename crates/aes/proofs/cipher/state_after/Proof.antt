@@ -4,7 +4,7 @@ use mathlib.Core.Path.{ap, _∙_}
 use mathlib.Core.List.{List}
 use Prim.Native.Nat.{ℕ}
 use borrow.Author.Needs.{needs}
-use Rattle.aes.specs.Cipher.{rounds}
+use Rattle.fips197.specs.Cipher.{rounds}
 use Rattle.aes.proofs.cipher.state_after.Statement.{statement}
 use Rattle.aes.proofs.cipher.state_after.Tie as tie
 

@@ -1,18 +1,24 @@
 -- `aes::context::fill` meets its contract: the inverse S-box and the schedule are written behind the round tables.
 -- Assumes nothing.
 use mathlib.Core.Path.{_≡_, _∙_}
+use mathlib.Core.List.{List}
+use Prim.Native.Nat.{ℕ, _≤_}
 use native.Mathlib.Omega.{arith}
 use lib.ListN.{length}
 use borrow.Author.Needs.{needs}
-use Rattle.aes.proofs.ContextLaws.{back, all-put, length-lent}
+use Rattle.aes.proofs.ContextLaws.{back, lent, all-put, length-lent}
 use Rattle.aes.proofs.context.fill.Statement.{statement}
 use Rattle.aes.proofs.context.fill.Tie as tie
 
+room : (l : List ℕ) → length l ≡ 4592 → 240 ≤ length (lent l 4352)
+room l n = omega (arith, length-lent l 4352, n)
+
 expand-requires : tie.Need-expand-requires
 expand-requires c κs =
-    let l = back (c .before .before .before .before .before .before .before .before .before .before .before .args .ctx .now) 4096 (c .before .before .before .before .put .last .0) in
-    let n : length l ≡ 4592 = search needs in
-    (search needs, (search needs, omega (arith, length-lent l 4352, n)))
+    let at-start = c .before .before .before .before .before .before .before .before .before .before .before in
+    let l = back (at-start .args .ctx .now) 4096 (c .before .before .before .before .put .last .0) in
+    let n : length l ≡ 4592 = c .before .before .before .ctx .given .1 ∙ at-start .pre .1 .0 in
+    (at-start .pre .0, (c .before .before .before .before .before .before .before .before .s-box .ensures, room l n))
 
 returns : tie.Need-returns
 returns c =

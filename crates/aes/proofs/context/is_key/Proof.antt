@@ -1,7 +1,7 @@
 -- `aes::context::is_key` meets its contract, test by test.
 -- Assumes nothing.
 use borrow.Author.Tests.{eq-eqb, ne-eqb}
-use Rattle.aes.specs.Schedule.{isKey}
+use Rattle.fips197.specs.Schedule.{isKey}
 use Rattle.aes.proofs.context.is_key.Statement.{statement}
 use Rattle.aes.proofs.context.is_key.Tie as tie
 

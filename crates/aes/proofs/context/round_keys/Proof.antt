@@ -6,8 +6,8 @@ use native.Mathlib.Omega.{arith}
 use lib.ListN.{length, take, drop, getD}
 use borrow.Author.Needs.{needs}
 use Rattle.octets.proofs.Strings.{bytes-of}
-use Rattle.aes.specs.Schedule.{keyExpansion}
-use Rattle.aes.proofs.ScheduleLaws.{key-words, keyExpansion-octets}
+use Rattle.fips197.specs.Schedule.{keyExpansion}
+use Rattle.fips197.proofs.ScheduleLaws.{key-words, keyExpansion-octets}
 use Rattle.aes.proofs.ContextLaws.{context-keys}
 use Rattle.aes.proofs.context.round_keys.Statement.{statement}
 use Rattle.aes.proofs.context.round_keys.Tie as tie

@@ -3,7 +3,7 @@
 use mathlib.Core.Path.{refl}
 use native.Mathlib.Omega.{arith}
 use borrow.Author.Needs.{needs}
-use Rattle.aes.proofs.ScheduleLaws.{key-words}
+use Rattle.fips197.proofs.ScheduleLaws.{key-words}
 use Rattle.aes.proofs.context.rounds_of.Statement.{statement}
 use Rattle.aes.proofs.context.rounds_of.Tie as tie
 

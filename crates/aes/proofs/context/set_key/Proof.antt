@@ -3,7 +3,7 @@
 use mathlib.Core.Path.{_≡_, sym, _∙_}
 use mathlib.Core.Bool.{true}
 use borrow.Author.Needs.{needs}
-use Rattle.aes.specs.Schedule.{isKey}
+use Rattle.fips197.specs.Schedule.{isKey}
 use Rattle.aes.proofs.ContextLaws.{keyed-good, keyed-bad}
 use Rattle.aes.proofs.context.set_key.Statement.{statement}
 use Rattle.aes.proofs.context.set_key.Tie as tie

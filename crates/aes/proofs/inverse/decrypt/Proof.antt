@@ -1,7 +1,7 @@
 -- `aes::inverse::decrypt` meets its contract: the context holds the table and the schedule that the rounds read.
 -- Assumes nothing.
 use borrow.Author.Needs.{needs}
-use Rattle.aes.proofs.CipherLaws.{invCipher-at}
+use Rattle.fips197.proofs.CipherLaws.{invCipher-at}
 use Rattle.aes.proofs.inverse.decrypt.Statement.{statement}
 use Rattle.aes.proofs.inverse.decrypt.Tie as tie
 

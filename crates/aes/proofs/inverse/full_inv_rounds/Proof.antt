@@ -6,10 +6,10 @@ use mathlib.Core.List.{List}
 use Prim.Native.Nat.{ℕ, _-_, _≤_}
 use native.Mathlib.Nat.{le-antisymm}
 use borrow.Author.Needs.{needs}
-use Rattle.aes.specs.Steps.{addRoundKey}
-use Rattle.aes.specs.Cipher.{invRounds}
-use Rattle.aes.specs.Words.{blockOf}
-use Rattle.aes.proofs.CipherLaws.{invRounds-more}
+use Rattle.fips197.specs.Steps.{addRoundKey}
+use Rattle.fips197.specs.Cipher.{invRounds}
+use Rattle.key_schedule.specs.Words.{blockOf}
+use Rattle.fips197.proofs.CipherLaws.{invRounds-more}
 use Rattle.aes.proofs.inverse.full_inv_rounds.Statement.{statement}
 use Rattle.aes.proofs.inverse.full_inv_rounds.Tie as tie
 

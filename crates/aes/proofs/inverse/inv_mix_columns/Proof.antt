@@ -1,7 +1,7 @@
 -- `aes::inverse::inv_mix_columns` meets its contract, column by column.
 -- Assumes nothing.
 use borrow.Author.Needs.{needs}
-use Rattle.aes.proofs.WordLaws.{unmix-block}
+use Rattle.aes.proofs.TableLaws.{unmix-block}
 use Rattle.aes.proofs.inverse.inv_mix_columns.Statement.{statement}
 use Rattle.aes.proofs.inverse.inv_mix_columns.Tie as tie
 

@@ -4,7 +4,7 @@ use mathlib.Core.Path.{ap, _∙_}
 use lib.ListN.{length}
 use Rattle.octets.proofs.Strings.{length-table}
 use Rattle.field.specs.SBox.{invSBox}
-use Rattle.aes.proofs.WordLaws.{unshift-block}
+use Rattle.aes.proofs.TableLaws.{unshift-block}
 use Rattle.aes.proofs.inverse.unshift_unsub.Statement.{statement}
 use Rattle.aes.proofs.inverse.unshift_unsub.Tie as tie
 

@@ -1,7 +1,7 @@
 -- `aes::table::add_key` meets its contract.
 -- Assumes nothing.
 use borrow.Author.Needs.{needs}
-use Rattle.aes.proofs.WordLaws.{added-bytes}
+use Rattle.aes.proofs.TableLaws.{added-bytes}
 use Rattle.aes.proofs.table.add_key.Statement.{statement}
 use Rattle.aes.proofs.table.add_key.Tie as tie
 

@@ -1,7 +1,7 @@
 -- `aes::table::mix` meets its contract.
 -- Assumes nothing.
 use borrow.Author.Needs.{needs}
-use Rattle.aes.proofs.WordLaws.{mix-block}
+use Rattle.aes.proofs.TableLaws.{mix-block}
 use Rattle.aes.proofs.table.mix.Statement.{statement}
 use Rattle.aes.proofs.table.mix.Tie as tie
 

@@ -1,7 +1,7 @@
 -- `aes::table::shift` meets its contract.
 -- Assumes nothing.
 use borrow.Author.Needs.{needs}
-use Rattle.aes.proofs.WordLaws.{shift-block}
+use Rattle.aes.proofs.TableLaws.{shift-block}
 use Rattle.aes.proofs.table.shift.Statement.{statement}
 use Rattle.aes.proofs.table.shift.Tie as tie
 

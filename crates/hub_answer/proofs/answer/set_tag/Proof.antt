@@ -9,7 +9,7 @@ use Rattle.hub_answer.proofs.answer.set_tag.Tie as tie
 
 -- no set is unknown
 returns : tie.Need-returns
-returns c = let at = c .before .before .before in absurd (subst T (sym (at .pre) ∙ is-unknown (at .args .set) cc) tt)
+returns c = let at = c .before .before .before in absurd (subst T (sym (at .pre) ∙ is-unknown (at .args .set) (sym (c .before .before .lookup .ensures) ∙ c .enum-told .given .1)) tt)
 
 returns-2 : tie.Need-returns-2
 returns-2 c =

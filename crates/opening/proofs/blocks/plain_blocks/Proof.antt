@@ -4,8 +4,8 @@ use mathlib.Core.Path.{_≡_}
 use Prim.Native.Nat.{_-_}
 use lib.ListN.{length}
 use borrow.Author.Needs.{needs}
-use Rattle.aes.specs.Cipher.{cipher, invCipher}
-use Rattle.mode.specs.Halves.{halvesOf}
+use Rattle.fips197.specs.Cipher.{cipher, invCipher}
+use Rattle.mode_steps.specs.Halves.{halvesOf}
 use Rattle.sealing.proofs.PieceLaws.{Turned, sum-none, turned-none, turned-once, turned-all}
 use Rattle.opening.proofs.BlockLaws.{Sums, plain-sum, plain-all}
 use Rattle.opening.proofs.blocks.plain_blocks.Statement.{statement}

@@ -2,7 +2,7 @@
 -- Assumes nothing.
 use mathlib.Core.Path.{_∙_}
 use native.Mathlib.Omega.{arith}
-use Rattle.aes.specs.Cipher.{cipher}
+use Rattle.fips197.specs.Cipher.{cipher}
 use Rattle.sealing.proofs.BeginLaws.{first-tag}
 use borrow.Author.Needs.{needs}
 use Rattle.opening.proofs.forms.open_first.Statement.{statement}

@@ -4,7 +4,7 @@ use mathlib.Core.Path.{_≡_, _∙_, refl}
 use Prim.Native.Nat.{ℕ, _-_, _/_}
 use native.Mathlib.Omega.{arith}
 use lib.ListN.{length, length-take, length-drop}
-use Rattle.aes.specs.Cipher.{cipher, invCipher}
+use Rattle.fips197.specs.Cipher.{cipher, invCipher}
 use Rattle.mode.specs.Open.{joinedAttempt, attempt}
 use Rattle.sealing.proofs.SealForms.{part-sizes}
 use Rattle.opening.proofs.OpenForms.{tail-turn}
@@ -30,7 +30,7 @@ part-t-end c =
 joined-tail-requires : tie.Need-joined-tail-requires
 joined-tail-requires c κs =
     let w : length (c .before .before .before .before .before .before .before .before .before .open-first .result .tag) ≡ 16 = search needs in
-    let kept : length (c .before .before .before .before .before .before .before .before .before .open-first .last .1 .1 .1 .1 .1 .1 .1 .0) ≡ length (c .before .before .before .before .before .before .before .before .before .before .before .before .before .before .before .before .before .before .args .out .now) = search needs in
+    let kept : length (c .before .before .before .before .before .before .before .before .before .open-first .last .1 .1 .1 .1 .1 .1 .1 .0) ≡ length (c .before .before .before .before .before .before .before .before .before .before .before .before .before .before .before .before .before .before .args .out .now) = c .before .before .before .before .before .before .before .before .before .open-first .kept .1 .1 .1 .1 .1 .1 .1 .0 in
     let p = c .before .before .before .before .before .before .before .before .before .before .before .before .before .before .before .before .before .before .pre in
     let h = p .1 .1 .1 in
     let f = p .1 .1 .0 in
@@ -43,7 +43,7 @@ returns : tie.Need-returns
 unfolding attempt
 returns c =
     let size : length (c .before .before .before .before .before .before .before .before .before .before .before .before .open-first .result .tag) ≡ 16 = search needs in
-    let kept : length (c .before .before .before .before .before .before .before .before .before .before .before .before .open-first .last .1 .1 .1 .1 .1 .1 .1 .0) ≡ length (c .before .before .before .before .before .before .before .before .before .before .before .before .before .before .before .before .before .before .before .before .before .args .out .now) = search needs in
+    let kept : length (c .before .before .before .before .before .before .before .before .before .before .before .before .open-first .last .1 .1 .1 .1 .1 .1 .1 .0) ≡ length (c .before .before .before .before .before .before .before .before .before .before .before .before .before .before .before .before .before .before .before .before .before .args .out .now) = c .before .before .before .before .before .before .before .before .before .before .before .before .open-first .kept .1 .1 .1 .1 .1 .1 .1 .0 in
     let a = c .before .before .before .before .before .before .before .before .before .before .before .before .before .before .before .before .before .before .before .before .before .args in
     let h = c .before .before .before .before .before .before .before .before .before .before .before .before .before .before .before .before .before .before .before .before .before .pre .1 .1 .1 in
     let b = c .before .before .before .before .before .before .before .before .before .before .before .before .open-first .ensures in
@@ -67,7 +67,7 @@ returns c =
     (omega (arith, l, h .2))
     refl
     (c .before .before .joined-tail .ensures)
-    (search needs)
+    (c .before .before .joined-tail .kept .1 .1 .1 .1 .1 .1 .0)
 
 pub open-joined-spec : {M : Type 1} → statement M
 open-joined-spec = tie.close (tie.spec (λ c κs. search needs) slice-aggregate-open-first open-first-requires (λ c κs. search needs) (λ c. search needs) (λ c. search needs) (λ c. search needs) part-t-end (λ c. search needs) (λ c. search needs) (λ c. search needs) (λ c. search needs) (λ c. search needs) (λ c. search needs) joined-tail-requires (λ c. search needs) returns)

@@ -3,7 +3,7 @@
 use Prim.Native.Nat.{_-_}
 use native.Mathlib.Omega.{arith}
 use lib.ListN.{length}
-use Rattle.aes.specs.Cipher.{cipher, invCipher}
+use Rattle.fips197.specs.Cipher.{cipher, invCipher}
 use Rattle.mode.specs.Sets.{tagBytes}
 use Rattle.mode.specs.Forms.Form.{short, joined, separate}
 use Rattle.mode.proofs.FormLaws.{open-short, open-joined, open-long, open-one}

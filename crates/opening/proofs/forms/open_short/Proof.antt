@@ -4,7 +4,7 @@ use mathlib.Core.Path.{_≡_, ap}
 use Prim.Native.Nat.{ℕ, _-_}
 use native.Mathlib.Omega.{arith}
 use lib.ListN.{length, length-take, length-drop}
-use Rattle.aes.specs.Cipher.{cipher, invCipher}
+use Rattle.fips197.specs.Cipher.{cipher, invCipher}
 use Rattle.opening.proofs.OpenForms.{short-turn}
 use borrow.Author.Needs.{needs}
 use Rattle.opening.proofs.forms.open_short.Statement.{statement}
@@ -20,12 +20,12 @@ cover-requires c κs =
 
 slice-aggregate-same : tie.Need-slice-aggregate-same
 slice-aggregate-same c =
-    let e : length (c .before .before .before .short-tag .result) ≡ 16 = search needs in
+    let e : length (c .before .before .before .short-tag .result) ≡ 16 = c .before .before .before .short-tag .ok .1 .0 .1 in
     simp length-take (omega (arith, c .before .tag-bytes2 .ensures, c .before .before .before .before .before .before .before .before .before .before .before .before .before .before .before .before .before .before .pre .1 .1 .0 .0))
 
 same-requires : tie.Need-same-requires
 same-requires c κs =
-    let e : length (c .before .before .before .short-tag .result) ≡ 16 = search needs in
+    let e : length (c .before .before .before .short-tag .result) ≡ 16 = c .before .before .before .short-tag .ok .1 .0 .1 in
     let p = c .before .before .before .before .before .before .before .before .before .before .before .before .before .before .before .before .before .before .pre .1 .1 in
     simp (length-take, length-drop) (omega (arith, c .before .tag-bytes2 .ensures, c .before .before .before .before .before .before .before .before .before .before .before .before .tag-bytes .ensures, p .0 .0, p .1 .2))
 

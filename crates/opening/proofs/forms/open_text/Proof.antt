@@ -4,7 +4,7 @@ use mathlib.Core.Path.{_≡_, ap}
 use Prim.Native.Nat.{ℕ, _-_}
 use native.Mathlib.Omega.{arith}
 use lib.ListN.{length}
-use Rattle.aes.specs.Cipher.{cipher, invCipher}
+use Rattle.fips197.specs.Cipher.{cipher, invCipher}
 use Rattle.mode.specs.Sets.{tagBytes}
 use Rattle.opening.proofs.OpenForms.{open-good, open-bad}
 use borrow.Author.Needs.{needs}
@@ -19,7 +19,7 @@ returns c =
 
 returns-2 : tie.Need-returns-2
 returns-2 c =
-    let kept : length (c .before .before .before .before .before .before .before .before .open-message .last .1 .1 .1 .1 .1 .1 .1 .0) ≡ length (c .before .before .before .before .before .before .before .before .before .before .before .before .before .before .before .args .out .now) = search needs in
+    let kept : length (c .before .before .before .before .before .before .before .before .open-message .last .1 .1 .1 .1 .1 .1 .1 .0) ≡ length (c .before .before .before .before .before .before .before .before .before .before .before .before .before .before .before .args .out .now) = c .before .before .before .before .before .before .before .before .open-message .kept .1 .1 .1 .1 .1 .1 .1 .0 in
     let a = c .before .before .before .before .before .before .before .before .before .before .before .before .before .before .before .args in
     let h = c .before .before .before .before .before .before .before .before .before .before .before .before .before .before .before .pre .1 .1 .1 in
     open-bad (cipher (a .key .now)) (invCipher (a .key .now)) (a .tag) (a .capacity) (a .nonce .now) (a .header .now) (a .text .now) (a .out .now) (c .before .before .before .before .before .before .before .before .open-message .last .1 .1 .1 .1 .1 .1 .1 .0) (c .before .before .clear .last .0) (length (a .text .now) - tagBytes (a .tag)) _ _

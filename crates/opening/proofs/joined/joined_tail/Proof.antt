@@ -3,7 +3,7 @@
 use mathlib.Core.Path.{_≡_, refl}
 use native.Mathlib.Omega.{arith}
 use lib.ListN.{length}
-use Rattle.aes.specs.Cipher.{cipher, invCipher}
+use Rattle.fips197.specs.Cipher.{cipher, invCipher}
 use Rattle.mode.specs.Sets.{tagBytes}
 use Rattle.mode.specs.Open.{joinedAttempt}
 use Rattle.opening.proofs.AttemptLaws.{blocks-turn, rest-size}
@@ -13,24 +13,26 @@ use Rattle.opening.proofs.joined.joined_tail.Tie as tie
 
 plain-blocks-requires : tie.Need-plain-blocks-requires
 plain-blocks-requires c κs =
-    let h = c .before .before .before .before .before .pre .1 .1 in
-    (search needs, (search needs, (omega (arith, h .1), omega (arith, h .1, h .2, h .3))))
+    let p = c .before .before .before .before .before .pre in
+    let h = p .1 .1 in
+    (p .0, (p .1 .0, (omega (arith, h .1), omega (arith, h .1, h .2, h .3))))
 
 joined-end-requires : tie.Need-joined-end-requires
 joined-end-requires c κs =
-    let l : length (c .before .before .before .before .plain-blocks .last .1 .1 .1 .1 .1 .0) ≡ length (c .before .before .before .before .before .before .before .before .before .before .args .out .now) = search needs in
-    let h = c .before .before .before .before .before .before .before .before .before .before .pre .1 .1 in
-    (search needs, (search needs, (h .0, rw rest-size (omega (arith, h .1, h .2)), rw rest-size (omega (arith, h .1)), rw (rest-size, rest-size) (omega (arith, l, h .1, h .2, h .3)))))
+    let l : length (c .before .before .before .before .plain-blocks .last .1 .1 .1 .1 .1 .0) ≡ length (c .before .before .before .before .before .before .before .before .before .before .args .out .now) = c .before .before .before .before .plain-blocks .kept .1 .1 .1 .1 .1 .0 in
+    let p = c .before .before .before .before .before .before .before .before .before .before .pre in
+    let h = p .1 .1 in
+    (p .0, (p .1 .0, (h .0, rw rest-size (omega (arith, h .1, h .2)), rw rest-size (omega (arith, h .1)), rw (rest-size, rest-size) (omega (arith, l, h .1, h .2, h .3)))))
 
 returns : tie.Need-returns
 returns c =
-    let kept : length (c .before .before .before .before .before .before .before .plain-blocks .last .1 .1 .1 .1 .1 .0) ≡ length (c .before .before .before .before .before .before .before .before .before .before .before .before .before .args .out .now) = search needs in
+    let kept : length (c .before .before .before .before .before .before .before .plain-blocks .last .1 .1 .1 .1 .1 .0) ≡ length (c .before .before .before .before .before .before .before .before .before .before .before .before .before .args .out .now) = c .before .before .before .before .before .before .before .plain-blocks .kept .1 .1 .1 .1 .1 .0 in
     let a = c .before .before .before .before .before .before .before .before .before .before .before .before .before .args in
     let h = c .before .before .before .before .before .before .before .before .before .before .before .before .before .pre .1 .1 in
     let E = cipher (a .key .now) in
     let D = invCipher (a .key .now) in
     blocks-turn E D (joinedAttempt E D (a .tau) (a .tag .now)) (tagBytes (a .tau)) (a .offset) (a .text .now) _ _ (a .out .now) (c .before .before .before .before .before .before .before .plain-blocks .last .1 .1 .1 .1 .1 .0) (c .before .before .joined-end .last .1 .1 .1 .1 .1 .1 .0) _ _ _
-    refl (omega (arith, h .1, h .2)) (h .3) kept (c .before .before .before .before .before .before .before .plain-blocks .ensures) (c .before .before .joined-end .ensures) (search needs)
+    refl (omega (arith, h .1, h .2)) (h .3) kept (c .before .before .before .before .before .before .before .plain-blocks .ensures) (c .before .before .joined-end .ensures) (c .before .before .joined-end .kept .1 .1 .1 .1 .1 .1 .0)
 
 pub joined-tail-spec : {M : Type 1} → statement M
 joined-tail-spec = tie.close (tie.spec (λ c. search needs) (λ c. search needs) plain-blocks-requires (λ c. search needs) (λ c. search needs) (λ c. search needs) (λ c. search needs) (λ c. search needs) (λ c. search needs) (λ c. search needs) (λ c. search needs) joined-end-requires (λ c. search needs) returns)

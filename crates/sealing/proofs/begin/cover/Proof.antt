@@ -2,7 +2,7 @@
 -- Assumes nothing.
 use mathlib.Core.Path.{_≡_}
 use lib.ListN.{length}
-use Rattle.aes.specs.Cipher.{cipher}
+use Rattle.fips197.specs.Cipher.{cipher}
 use Rattle.sealing.proofs.BeginLaws.{first-out}
 use borrow.Author.Needs.{needs}
 use Rattle.sealing.proofs.begin.cover.Statement.{statement}

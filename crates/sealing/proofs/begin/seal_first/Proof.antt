@@ -3,7 +3,7 @@
 use mathlib.Core.Path.{_≡_, _∙_}
 use native.Mathlib.Omega.{arith}
 use lib.ListN.{length, length-take}
-use Rattle.aes.specs.Cipher.{cipher}
+use Rattle.fips197.specs.Cipher.{cipher}
 use Rattle.sealing.proofs.BeginLaws.{written-tag}
 use borrow.Author.Needs.{needs}
 use Rattle.sealing.proofs.begin.seal_first.Statement.{statement}

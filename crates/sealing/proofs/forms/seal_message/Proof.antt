@@ -1,7 +1,7 @@
 -- `sealing::forms::seal_message` meets its contract.
 -- Assumes nothing.
 use native.Mathlib.Omega.{arith}
-use Rattle.aes.specs.Cipher.{cipher}
+use Rattle.fips197.specs.Cipher.{cipher}
 use Rattle.mode.specs.Forms.Form.{short, joined, separate}
 use Rattle.mode.proofs.FormLaws.{seal-short, seal-joined, seal-long, seal-one}
 use Rattle.sealing.proofs.SealForms.{enc-form}

@@ -1,26 +1,24 @@
 -- `sealing::forms::seal_separate` meets its contract.
 -- Assumes nothing.
-use mathlib.Core.Path.{_≡_}
-use Prim.Native.Nat.{_≤_}
+use mathlib.Core.Path.{_≡_, sym}
 use native.Mathlib.Omega.{arith}
-use lib.ListN.{length, length-take, length-drop}
-use Rattle.aes.specs.Cipher.{cipher}
-use Rattle.mode.specs.Sets.{tagBytes}
-use Rattle.sealing.proofs.SealForms.{separate-turn}
+use lib.ListN.{length}
+use Rattle.fips197.specs.Cipher.{cipher}
+use Rattle.sealing.proofs.PieceLaws.{take-size, tag-fits}
+use Rattle.sealing.proofs.SealForms.{within, first-fits, lent, separate-turn}
 use borrow.Author.Needs.{needs}
 use Rattle.sealing.proofs.forms.seal_separate.Statement.{statement}
 use Rattle.sealing.proofs.forms.seal_separate.Tie as tie
 
 slice-aggregate-seal-first : tie.Need-slice-aggregate-seal-first
-slice-aggregate-seal-first c =
-    let h = c .before .before .before .before .before .before .before .pre .1 .1 .1 in
-    simp length-take (omega (arith, c .before .first-bytes .ensures, h .2))
+slice-aggregate-seal-first c = sym (take-size _ _ (within (c .before .first-bytes .ensures) (c .before .before .before .before .before .before .before .pre .1 .1 .1 .2)))
 
 seal-first-requires : tie.Need-seal-first-requires
 seal-first-requires c κs =
     let p = c .before .before .before .before .before .before .before .before .pre in
     let h = p .1 .1 .1 in
-    (p .0, (p .1 .0, (p .1 .1 .0, (h .0, h .1, simp length-take (omega (arith, c .before .before .first-bytes .ensures)), simp length-take (omega (arith, c .before .before .first-bytes .ensures, h .2, h .3))))))
+    let s = first-fits _ _ _ _ _ (c .before .before .first-bytes .ensures) (h .2) (h .3) in
+    (p .0, (p .1 .0, (p .1 .1 .0, (h .0, h .1, s .0, s .1))))
 
 part-t-end : tie.Need-part-t-end
 part-t-end c =
@@ -29,19 +27,20 @@ part-t-end c =
 
 separate-tail-requires : tie.Need-separate-tail-requires
 separate-tail-requires c κs =
-    let p = c .before .before .before .before .before .before .before .before .before .before .before .before .before .before .before .before .before .before .pre in
+    let at-first = c .before .before .before .before .before .before .before .before .before in
+    let entry = at-first .before .before .before .before .before .before .before .before .before in
+    let p = entry .pre in
     let h = p .1 .1 .1 in
-    let f = p .1 .1 .0 in
-    let t = c .before .before .before .before .tag-bytes .ensures in
-    let l = c .before .before .before .before .before .before .before .before .before .before .before .before .first-bytes .ensures in
-    let w : length (c .before .before .before .before .before .before .before .before .before .seal-first .result .tag) ≡ 16 = search needs in
-    let kept : length (c .before .before .before .before .before .before .before .before .before .seal-first .last .1 .1 .1 .1 .1 .1 .1 .0) ≡ length (c .before .before .before .before .before .before .before .before .before .before .before .before .before .before .before .before .before .before .args .out .now) = search needs in
-    (p .0, (p .1 .0, (simp (length-take, length-drop) (omega (arith, f .0)), omega (arith, f .0), simp (length-take, length-drop) (omega (arith, h .2)), simp (length-take, length-drop) (omega (arith, h .2, h .3)))))
+    let f = tag-fits (p .1 .1 .0 .0) in
+    let w : length (at-first .seal-first .result .tag) ≡ 16 = search needs in
+    let s =
+    lent (entry .args .text .now) (at-first .seal-first .result .tag) (at-first .seal-first .last .1 .1 .1 .1 .1 .1 .1 .0) (at-first .before .before .before .first-bytes .ensures) (c .before .before .before .before .tag-bytes .ensures) f w
+    (at-first .seal-first .kept .1 .1 .1 .1 .1 .1 .1 .0) (h .2) (h .3) in
+    (p .0, (p .1 .0, (s .1, f, rw (s .0) (s .2), rw (s .0) (s .3))))
 
 returns : tie.Need-returns
 returns c =
     let size : length (c .before .before .before .before .before .before .before .before .before .before .before .before .seal-first .result .tag) ≡ 16 = search needs in
-    let kept : length (c .before .before .before .before .before .before .before .before .before .before .before .before .seal-first .last .1 .1 .1 .1 .1 .1 .1 .0) ≡ length (c .before .before .before .before .before .before .before .before .before .before .before .before .before .before .before .before .before .before .before .before .before .args .out .now) = search needs in
     let at-tail = c .before .before in
     let at-tag = at-tail .before .before .before .before .before in
     let at-first = at-tag .before .before .before .before .before in
@@ -49,25 +48,25 @@ returns c =
     let entry = at-bytes .before .before .before .before .before .before in
     let a = entry .args in
     let h = entry .pre .1 .1 .1 in
-    let t : tagBytes (a .tag) ≤ 16 = omega (arith, entry .pre .1 .1 .0 .0) in
+    let t = tag-fits (entry .pre .1 .1 .0 .0) in
     let b = at-first .seal-first .ensures in
     let l = at-bytes .first-bytes .ensures in
     separate-turn (cipher (a .key .now)) (a .tag) (a .capacity) (a .nonce .now) (a .header .now) (at-tail .separate-tail .last .1 .1 .1 .1 .1 .1 .0)
     (record {
       bits = l;
       tags = at-tag .tag-bytes .ensures;
-      longer = omega (arith, l, h .2);
+      longer = within l (h .2);
       room = h .3;
       at-most = t;
       head = b .3;
-      kept = kept;
+      kept = at-first .seal-first .kept .1 .1 .1 .1 .1 .1 .1 .0;
       block = size;
       holds = b .1;
       size = b .2;
       start = b .0;
     })
     (at-tail .separate-tail .ensures)
-    (search needs)
+    (at-tail .separate-tail .kept .1 .1 .1 .1 .1 .1 .0)
 
 pub seal-separate-spec : {M : Type 1} → statement M
 seal-separate-spec = tie.close (tie.spec (λ c κs. search needs) slice-aggregate-seal-first seal-first-requires (λ c κs. search needs) (λ c. search needs) (λ c. search needs) (λ c. search needs) part-t-end (λ c. search needs) (λ c. search needs) (λ c. search needs) (λ c. search needs) (λ c. search needs) (λ c. search needs) separate-tail-requires (λ c. search needs) returns)

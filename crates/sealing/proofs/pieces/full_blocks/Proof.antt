@@ -4,8 +4,8 @@ use mathlib.Core.Path.{_≡_}
 use Prim.Native.Nat.{_-_}
 use lib.ListN.{length}
 use borrow.Author.Needs.{needs}
-use Rattle.aes.specs.Cipher.{cipher}
-use Rattle.mode.specs.Halves.{halvesOf}
+use Rattle.fips197.specs.Cipher.{cipher}
+use Rattle.mode_steps.specs.Halves.{halvesOf}
 use Rattle.mode.specs.Seal.{checksum}
 use Rattle.sealing.proofs.PieceLaws.{Turned, sum-none, sum-turn, turned-none, turned-once, turned-all}
 use Rattle.sealing.proofs.pieces.full_blocks.Statement.{statement}

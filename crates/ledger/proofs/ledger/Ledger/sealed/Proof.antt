@@ -11,10 +11,10 @@ use Rattle.ledger.proofs.ledger.Ledger.sealed.Tie as tie
 returns : tie.Need-returns
 returns c =
     let a = c .before .before .before .before .before .before .before .args in
-    ledger-refused (a .self) (a .nonce .now) (a .header .now) (a .text .now) (a .out .now) 1 (sym (ledger-refusals (a .self) (a .nonce .now) (a .header .now) (a .text .now) _ .refuse-set (is-unknown (a .self .set) cc))) (λ z. omega (arith, z))
+    ledger-refused (a .self) (a .nonce .now) (a .header .now) (a .text .now) (a .out .now) 1 (sym (ledger-refusals (a .self) (a .nonce .now) (a .header .now) (a .text .now) _ .refuse-set (is-unknown (a .self .set) (sym (c .before .before .lookup .ensures) ∙ c .enum-told .given .1)))) (λ z. omega (arith, z))
 
 checked-requires : tie.Need-checked-requires
-checked-requires c κs = cc
+checked-requires c κs = sym (c .before .before .before .lookup .ensures) ∙ c .before .p .given .1
 
 returns-2 : tie.Need-returns-2
 returns-2 c =
@@ -22,7 +22,7 @@ returns-2 c =
     ledger-refused (a .self) (a .nonce .now) (a .header .now) (a .text .now) (a .out .now) _ (c .before .checked .ensures) (c .if1 .taken)
 
 accepted-requires : tie.Need-accepted-requires
-accepted-requires c κs = (cc, sym (c .before .before .checked .ensures) ∙ c .before .if1 .left)
+accepted-requires c κs = (sym (c .before .before .before .before .before .before .lookup .ensures) ∙ c .before .before .before .before .p .given .1, sym (c .before .before .checked .ensures) ∙ c .before .if1 .left)
 
 pub sealed-spec : {M : Type 1} → statement M
 sealed-spec = tie.close (tie.spec (λ c κs. search needs) (λ c. search needs) (λ c. search needs) returns checked-requires returns-2 accepted-requires (λ c. search needs) (λ c. c .before .before .accepted .ensures))

@@ -1,0 +1,4 @@
+pub mod State
+pub mod Steps
+pub mod Schedule
+pub mod Cipher

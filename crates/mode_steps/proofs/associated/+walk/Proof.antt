@@ -1,0 +1,64 @@
+-- `mode_steps::associated::walk` meets its contract. The measure is the length of what is left, which falls by 16 at each call.
+-- Assumes nothing.
+use mathlib.Core.Path.{_∙_}
+use Prim.Native.Nat.{ℕ, _<_}
+use native.Mathlib.Omega.{arith}
+use denote.Ref.{now}
+use lib.ListN.{length, length-take, length-drop}
+use borrow.Author.Needs.{needs}
+use borrow.Fn.Kinds.{In}
+use borrow.Fn.PlainCycle.{Measures, is, falls, and}
+use Rattle.fips197.specs.Cipher.{cipher}
+use Rattle.mode_steps.proofs.DataLaws.{dataSum-rest, walk-turn}
+use Rattle.mode_steps.proofs.associated.walk.Reads as walk
+use Rattle.mode_steps.proofs.associated.walk.Kinds as walk-kinds
+use Rattle.mode_steps.proofs.associated.+walk.Lts-walk as walk-lts
+use Rattle.mode_steps.proofs.associated.added.Reads as added-reads
+use Rattle.mode_steps.proofs.associated.with_rest.Reads as with-rest-reads
+use Rattle.mode_steps.proofs.offsets.step.Reads as step-reads
+use Rattle.octets.proofs.first_block.Reads as first-block-reads
+use Rattle.mode_steps.proofs.associated.+walk.{statement}
+use Rattle.mode_steps.proofs.associated.+walk.Tie.{close}
+
+abbrev μ-walk : Measures 3 walk-kinds.ps ℕ
+μ-walk κs a = length (now (a .1 .1 .1 .1 .0))
+
+abbrev walk-at : ℕ → In 3 walk-kinds.ps
+walk-at t = and 3 walk-kinds.ps (is 3 walk-kinds.ps μ-walk t) walk.Pre
+
+abbrev walk-below : ℕ → In 3 walk-kinds.ps
+walk-below t = and 3 walk-kinds.ps (falls 3 walk-kinds.ps _<_ μ-walk t) walk.Pre
+
+pub +walk-spec : {M : Type 1} → statement M
++walk-spec = close μ-walk λ t. walk-lts.spec (
+  with-rest-reads.Asked,
+  with-rest-reads.Learnt,
+  step-reads.Asked,
+  step-reads.Learnt,
+  first-block-reads.Asked,
+  first-block-reads.Learnt,
+  added-reads.Asked,
+  added-reads.Learnt,
+  walk-below t,
+  walk.Post,
+)
+    (walk-at t)
+    walk.Post
+    (λ c κs. search needs)
+    (λ c.
+    let a = c .before .before .before .before .args in
+    c .with-rest .ensures ∙ dataSum-rest (cipher (a .key .now)) (a .sum) (a .offset) (a .rest .now) (c .before .if1 .taken))
+    (λ c κs. search needs)
+    (λ c κs. search needs)
+    (λ c κs. search needs)
+    (λ c. search needs)
+    (λ c. search needs)
+    (λ c. search needs)
+    (λ c κs. (simp (length-take, length-drop) (omega arith), search needs))
+    (λ c.
+    let at-added = c .before .before in
+    let at-step = at-added .before .before in
+    let a = at-step .before .before .before .before .args in
+    walk-turn (cipher (a .key .now)) (a .sum) (a .offset) (a .rest .now) _ _ _ _ (at-step .before .if1 .left) (at-step .step .ensures) (at-added .before .first-block .ensures)
+    (at-added .added .ensures)
+    (c .walk .ensures))
