@@ -2,7 +2,7 @@
 //! hand; the model must agree.
 
 use super::lines::Request;
-use super::model::{self, FIRST, LF};
+use super::model::{self, FIRST, HEADING, LF, MOST_LINE, SUMMARY};
 use crate::calls::bytes::to_hex;
 use crate::calls::{form, set, sets, Set};
 
@@ -19,8 +19,13 @@ const GOOD: [&str; 6] = ["seal", "3", KEY, NONCE, "d0d1", "c0ffee"];
 const SHORT_KEY: &str = "000102030405060708090a0b0c0d0e"; // 15 bytes
 const LONG_KEY: &str = "000102030405060708090a0b0c0d0e0f1011121314151617"; // of set 9
 
-/// The accepted lines of sets 1 to 10: six each, three more of set 3 and two of set 1.
-const ACCEPTED: [usize; 10] = [8, 6, 9, 6, 6, 6, 6, 6, 6, 6];
+/// The accepted lines of sets 1 to 10: eight each, three more of set 3 and two of set 1.
+const ACCEPTED: [usize; 10] = [10, 8, 11, 8, 8, 8, 8, 8, 8, 8];
+
+/// The bytes that the program reads and writes at once, and those that a line of output may need. It reads this
+/// input from a file, so that each read but the last has so many.
+const BUFFER: usize = 65_536;
+const ROOM: usize = 4200;
 
 /// The good words with another in one place.
 fn with(i: usize, word: &str) -> String {
@@ -43,6 +48,20 @@ fn sealing(s: Set, data: usize, text: usize) -> Request {
     }
 }
 
+/// A sealing whose line has 4,095 or 4,096 bytes.
+fn longest(set: Set, data: usize) -> Request {
+    let short = sealing(set, data, 1).line().len();
+    let long = sealing(set, data, 1 + (MOST_LINE - short) / 2);
+    assert!(long.line().len() + 1 >= MOST_LINE, "a short line");
+    long
+}
+
+/// A sealing whose opening's line is as long.
+fn longest_opened(set: Set, data: usize) -> Request {
+    let text = longest(set, data).values[3].len();
+    sealing(set, data, text - set.t)
+}
+
 impl Script {
     fn line(&mut self, answer: u32, line: impl Into<Vec<u8>>) {
         self.lines.push(line.into());
@@ -54,6 +73,10 @@ impl Script {
     fn opens(&mut self, sealing: &Request) {
         self.lines.push(sealing.opening().line());
         self.said.push((0, Some(sealing.values[3].clone())));
+    }
+
+    fn input(&self) -> Vec<u8> {
+        [FIRST.as_bytes(), &[LF], &self.lines.join(&LF)].concat()
     }
 
     /// Holds the model's output to what is said here.
@@ -74,9 +97,30 @@ impl Script {
     }
 }
 
+/// The input is longer than two reads. The first ends within a line that opens, and has answers for which the program
+/// has no room at once; the second ends where a line does.
+fn check_reads(input: &[u8]) {
+    assert!(input.len() > 2 * BUFFER, "no third read");
+    let read = &input[..BUFFER];
+    let whole = read.iter().rposition(|&byte| byte == LF).expect("an LF");
+    let crossing = model::lines(&input[whole + 1..]).next().expect("a line");
+    assert!(crossing.starts_with(b"open 7 "), "another line crosses");
+    assert!(whole + 1 + crossing.len() > BUFFER, "no line crosses");
+    assert_eq!(model::answer(crossing).answer, 0, "it does not open");
+    // After the answers to the whole lines the program has no room for another, and there is more of the read.
+    let said = model::output(&read[..whole]);
+    let mut places = said.windows(SUMMARY.len());
+    let summary = places.position(|place| place == SUMMARY.as_bytes());
+    let answers = summary.expect("a summary") - (HEADING.len() + 1);
+    assert!(answers > BUFFER - ROOM, "room for all answers");
+    assert!(whole + 1 < BUFFER, "nothing is left of the read");
+    assert_eq!(input[2 * BUFFER - 1], LF, "the second read ends elsewhere");
+}
+
 /// The input and the output.
 pub fn script() -> (Vec<u8>, Vec<u8>) {
     let mut s = Script::default();
+    first_read(&mut s);
     every_set(&mut s);
     refusals(&mut s);
     false_ones(&mut s);
@@ -84,11 +128,35 @@ pub fn script() -> (Vec<u8>, Vec<u8>) {
     set_words(&mut s);
     hex_words(&mut s);
     lengths(&mut s);
+    second_read(&mut s);
     s.line(0, GOOD.join(" ")); // and no LF
-    let input = [FIRST.as_bytes(), &[LF], &s.lines.join(&LF)].concat();
+    let input = s.input();
     let output = model::output(&input);
     s.check(&output);
+    check_reads(&input);
     (input, output)
+}
+
+/// Sealings with more answers than the program writes at once, and an opening that goes on into the second read.
+fn first_read(s: &mut Script) {
+    for set in sets() {
+        s.line(0, longest(set, 0).line());
+    }
+    for set in sets().take(5) {
+        s.line(0, longest(set, 17).line());
+    }
+    let [six, seven] = [6, 7].map(|n| set(n).expect("a set"));
+    s.line(0, sealing(six, 0, 700).line());
+    s.opens(&longest_opened(seven, 40));
+}
+
+/// Openings of long lines, some with long data, and a line that ends with the second read.
+fn second_read(s: &mut Script) {
+    for (number, data) in [(8, 0), (9, 1000), (10, 1920)] {
+        s.opens(&longest_opened(set(number).expect("a set"), data));
+    }
+    let rest = 2 * BUFFER - (s.input().len() + 1); // LF ends the line before
+    s.line(11, "0".repeat(rest - 1));
 }
 
 /// Sealing and opening in the short, the joined and the separate form.
