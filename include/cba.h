@@ -8,6 +8,8 @@
 #include <stddef.h>
 #include <stdint.h>
 
+#define CBA_VERSION "1.0.0"
+
 #ifdef __cplusplus
 extern "C" {
 #endif
@@ -54,6 +56,13 @@ enum cba_answer {
     CBA_BUFFER = 7, /* out_len is less than the result's length */
     CBA_FALSE = 8   /* opening: no message seals to this ciphertext under this set, key, nonce and data */
 };
+
+/* The bytes of stack that are enough for a call with so many bytes of data, and for any call:
+   112 KiB. The data are walked by a recursion, a call for each 16 bytes. The figures are measured
+   and rounded up, not proved. The caller's own frames, and what a thread keeps on its stack, are not
+   in them. A call does not notice that its stack is too small. */
+#define CBA_STACK_FOR(data_len) (16384 + 24 * (data_len))
+#define CBA_STACK CBA_STACK_FOR(4096)
 
 /* The calls have no state and use no heap: any number of threads may call at once.
 

@@ -5,9 +5,8 @@ set -euo pipefail
 cd "$(dirname "$(readlink -f "$0")")/.."
 tmp=$(mktemp -d)
 trap 'rm -rf "$tmp"' EXIT
-mkdir -p "$tmp"/crates/one/{src,specs,proofs} "$tmp/bindings/rust" "$tmp/bin"
-cp -r install include "$tmp"
-cp bindings/rust/Cargo.toml "$tmp/bindings/rust"
+mkdir -p "$tmp"/crates/one/{src,specs,proofs} "$tmp/bin"
+cp -r install include VERSION "$tmp"
 touch "$tmp/crates.txt" "$tmp/crates/one/src/lib.rt"
 
 cat >"$tmp/bin/rt" <<'EOF'

@@ -34,12 +34,25 @@ refuses() { # FOLDER ARGUMENT..
     same "what is below $1 after ./install ${*:2}" "$before" "$(find "$1")"
 }
 
+# VERSION has the version; what has to repeat it says the same.
+version=$(cat VERSION)
+[[ $version =~ ^[0-9]+\.[0-9]+\.[0-9]+$ ]] || same "VERSION" "three numbers" "$version"
+same "CBA_VERSION in include/cba.h" "\"$version\"" "$(sed -n 's/^#define CBA_VERSION //p' include/cba.h)"
+same "the version in bindings/rust/Cargo.toml" "$version" \
+    "$(sed -n 's/^version = "\(.*\)"$/\1/p' bindings/rust/Cargo.toml)"
+same "the version of cba in bindings/rust/Cargo.lock" "$version" \
+    "$(sed -n '/^name = "cba"$/ { n; s/^version = "\(.*\)"$/\1/p }' bindings/rust/Cargo.lock)"
+same "the newest version in CHANGELOG.md" "$version" \
+    "$(sed -n 's/^## \([0-9][0-9.]*\).*$/\1/p' CHANGELOG.md | head -n 1)"
+
 # By a relative name, from another folder; a second time over the first.
 (cd "$tmp" && "$root/install" prefix && "$root/install" prefix)
 same "the files" "include/cba.h lib/libcba.a lib/pkgconfig/cba.pc" \
     "$(find "$tmp/prefix" -type f -printf '%P\n' | sort | paste -sd ' ')"
-same "the version" "$(sed -n 's/^version = "\(.*\)"$/\1/p' bindings/rust/Cargo.toml)" \
+same "the version in lib/pkgconfig/cba.pc" "$version" \
     "$(PKG_CONFIG_PATH=$tmp/prefix/lib/pkgconfig pkg-config --modversion cba)"
+same "CBA_VERSION in the installed cba.h" "\"$version\"" \
+    "$(gcc -E -P -include "$tmp/prefix/include/cba.h" - <<<CBA_VERSION | tail -n 1)"
 check_built "$tmp/prefix"
 
 # An installation can be moved.
@@ -55,4 +68,4 @@ refuses "$tmp/refused" "$tmp/refused/a" "$tmp/refused/b"
 refuses "$tmp/refused" "$tmp/refused/file"
 refuses "$tmp/refused" "$tmp/refused/half" # lib can be made there, and include cannot
 refuses "$tmp/refused" /proc/cba # where root may not write either
-echo "install.sh: C and C++ built over an installation, before and after it was moved; 7 refusals"
+echo "install.sh: version $version everywhere; C and C++ built over an installation, before and after it was moved; 7 refusals"

@@ -1,7 +1,8 @@
 //! Finds libcba.a: in the folder that CBA_LIB_DIR names, else where pkg-config has it, else in the repository, where
-//! `rt staticlib cba` writes it.
+//! `rt staticlib cba` writes it. In the repository this crate's version must be the one in the file VERSION.
 
-use std::env::var_os;
+use std::env::{var, var_os};
+use std::fs::read_to_string;
 use std::path::{Path, PathBuf};
 use std::process::{exit, Command};
 
@@ -16,10 +17,34 @@ fn main() {
     ] {
         println!("cargo:rerun-if-env-changed={name}");
     }
+    check_version();
     let folder = folder();
     println!("cargo:rerun-if-changed={}", folder.join(FILE).display());
     println!("cargo:rustc-link-search=native={}", folder.display());
     println!("cargo:rustc-link-lib=static=cba");
+}
+
+/// Cargo.toml cannot take its version from another file. A copy of this crate that stands elsewhere has no such file,
+/// and nothing to be held to.
+fn check_version() {
+    let file = root().join("VERSION");
+    let Ok(version) = read_to_string(&file) else {
+        return;
+    };
+    println!("cargo:rerun-if-changed={}", file.display());
+    let (version, own) = (version.trim_end(), var("CARGO_PKG_VERSION"));
+    if own.as_deref() != Ok(version) {
+        wrong(&format!(
+            "Cargo.toml has version {}, and {} has {version}",
+            own.unwrap_or_default(),
+            file.display()
+        ));
+    }
+}
+
+/// The repository's folder, where this crate is in it.
+fn root() -> PathBuf {
+    Path::new(&var_os("CARGO_MANIFEST_DIR").unwrap_or_default()).join("../..")
 }
 
 /// A folder that is named is the one that is meant: where it has no library, no other is taken.
@@ -50,8 +75,7 @@ fn installed() -> Option<PathBuf> {
 }
 
 fn in_repository() -> Option<PathBuf> {
-    let root = Path::new(&var_os("CARGO_MANIFEST_DIR")?).join("../..");
-    found(&root.join("target/staticlib"))
+    found(&root().join("target/staticlib"))
 }
 
 fn wrong(why: &str) -> ! {
