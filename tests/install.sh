@@ -15,12 +15,22 @@ same() { # WHAT EXPECTED FOUND
 built() { # PREFIX COMPILER.. FILE
     local flags
     read -ra flags < <(PKG_CONFIG_PATH=$1/lib/pkgconfig pkg-config --cflags --libs cba)
-    "${@:2}" -Wall -Wextra -Werror -o "$tmp/program" "${flags[@]}"
-    "$tmp/program"
+    "${@:2}" -Wall -Wextra -Werror -o "$tmp/program" "${flags[@]}" && "$tmp/program"
+}
+
+# README.md's lines of C, as the body of a function.
+readme_program() {
+    echo '#include <cba.h>'
+    echo 'static uint32_t call(const uint8_t *key, const uint8_t *nonce) {'
+    sed -n '/^```c$/,/^```$/ { /^```/!p }' README.md
+    echo '}'
+    echo 'int main(void) { return (int)call((const uint8_t[16]){1}, (const uint8_t[12]){2}); }'
 }
 
 check_built() { # PREFIX
     built "$1" gcc -O2 examples/seal_and_open.c | cmp - examples/seal_and_open.out
+    readme_program >"$tmp/readme.c"
+    built "$1" gcc -O2 "$tmp/readme.c" || same "the status of README.md's lines of C" 0 $?
     built "$1" g++ -std=c++11 tests/cplusplus.cc
 }
 
