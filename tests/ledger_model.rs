@@ -81,16 +81,18 @@ fn run(program: &str, word: Option<&str>) -> ! {
     let (found, ended) = found.unwrap_or_else(|why| wrong(&format!("ledger_model: {why}")));
     let differences = differences(&lists, &found) + !ended as usize;
 
-    let calls: usize = seen.sealings.values().sum();
     println!(
         "ledger_model: makings, {}; hand-made: {}",
         by_answer(&seen.makings),
         seen.put
     );
-    println!(
-        "ledger_model: {calls} sealings; {}",
-        by_answer(&seen.sealings)
-    );
+    for (kind, counts) in ["by value", "on a lent ledger"].iter().zip(&seen.sealings) {
+        let calls: usize = counts.values().sum();
+        println!(
+            "ledger_model: {calls} sealings {kind}; {}",
+            by_answer(counts)
+        );
+    }
     println!(
         "ledger_model: {LISTS} lists; {} pairs of refusals, {} sums of 2^64 or more; {differences} differences; {:.1} s",
         seen.pairs.len(),

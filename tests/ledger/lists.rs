@@ -12,7 +12,7 @@ use std::collections::{BTreeMap, BTreeSet};
 pub struct Seen {
     pub makings: BTreeMap<u32, usize>,
     pub put: usize,
-    pub sealings: BTreeMap<u32, usize>,
+    pub sealings: [BTreeMap<u32, usize>; 2], // by value, and on a lent ledger
     pub pairs: BTreeSet<(u32, u32)>,
     full: BTreeSet<u32>,   // sets in which a charge above 0 led to 2^b exactly
     over: BTreeSet<u32>,   // sets in which the sum was 2^b + 1
@@ -191,6 +191,7 @@ impl Random {
         };
         let seeds = [self.number() as u8, self.number() as u8];
         Call {
+            lent: self.one_in(2),
             nonce,
             data,
             text,
@@ -228,7 +229,9 @@ pub fn list(random: &mut Random, seen: &mut Seen) -> (Vec<Record>, Vec<String>) 
         match &record {
             Record::Make(..) => *seen.makings.entry(answer).or_default() += 1,
             Record::Put(_) => seen.put += 1,
-            Record::Seal(_) => *seen.sealings.entry(answer).or_default() += 1,
+            Record::Seal(call) => {
+                *seen.sealings[call.lent as usize].entry(answer).or_default() += 1
+            }
         }
         records.push(record);
         lines.push(line);
@@ -266,9 +269,13 @@ impl Seen {
             "a making's answer is missing"
         );
         let answers = [1, 3, 4, 5, 7, 9, 10];
-        assert!(self.sealings.contains_key(&0), "none is accepted");
+        for counts in &self.sealings {
+            assert!(counts.contains_key(&0), "none is accepted");
+            for answer in &answers {
+                assert!(counts.contains_key(answer), "no answer {answer}");
+            }
+        }
         for (i, &first) in answers.iter().enumerate() {
-            assert!(self.sealings.contains_key(&first), "no answer {first}");
             for &second in &answers[i + 1..] {
                 let meet = first != 1 || ![7, 10].contains(&second);
                 assert!(

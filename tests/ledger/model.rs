@@ -22,9 +22,11 @@ pub const NO_LEDGER: Ledger = Ledger {
     last: [0; NONCE],
 };
 
-/// A sealing: the nonce, the lengths of data, text and output, and the seeds of data and text.
+/// A sealing: whether the ledger is lent to it, by which only the line's first word differs; the nonce, the lengths
+/// of data, text and output, and the seeds of data and text.
 #[derive(Clone, Debug)]
 pub struct Call {
+    pub lent: bool,
     pub nonce: Vec<u8>,
     pub data: usize,
     pub text: usize,
@@ -168,7 +170,8 @@ impl Record {
                 );
                 let [data, text, out] = [c.data, c.text, c.out].map(|n| (n as u32).to_be_bytes());
                 let lengths = [&data[1..], &text[1..], &out[1..]].concat();
-                [&[2, c.nonce.len() as u8], &lengths[..], &c.seeds, &c.nonce].concat()
+                let start = [2 + c.lent as u8, c.nonce.len() as u8];
+                [&start, &lengths[..], &c.seeds, &c.nonce].concat()
             }
         };
         assert!(bytes.len() <= 64, "too long for a record");
@@ -191,7 +194,8 @@ impl Record {
             Record::Seal(call) => {
                 let (answer, next, out) = ledger.seal(call);
                 *ledger = next;
-                (format!("seal {answer}"), format!(" {}", shown(&out)))
+                let word = if call.lent { "lent" } else { "seal" };
+                (format!("{word} {answer}"), format!(" {}", shown(&out)))
             }
         };
         let Ledger {

@@ -6,6 +6,7 @@ pub struct Script {
     pub records: Vec<Record>,
     pub lines: Vec<String>,
     ledger: Ledger,
+    lent: &'static [bool], // whether a sealing's ledger is lent, in turn
 }
 
 /// A key of 32 bytes that are all different, and none 0.
@@ -49,7 +50,9 @@ impl Script {
     fn seal_bytes(&mut self, expected: (u32, u64), nonce: Vec<u8>, lengths: [usize; 3]) {
         let [data, text, out] = lengths;
         let seeds = [1, 2];
+        let lent = self.lent[self.records.len() % self.lent.len()];
         self.add(Record::Seal(Call {
+            lent,
             nonce,
             data,
             text,
@@ -69,6 +72,7 @@ pub fn script() -> Script {
         records: vec![],
         lines: vec![],
         ledger: NO_LEDGER,
+        lent: &[false],
     };
     makings(&mut s);
     every_set(&mut s);
@@ -77,6 +81,7 @@ pub fn script() -> Script {
     whole_capacity(&mut s);
     hand_made(&mut s);
     unused_key_bytes(&mut s);
+    lent(&mut s);
     s
 }
 
@@ -238,6 +243,17 @@ fn unused_key_bytes(s: &mut Script) {
             .collect();
         assert_eq!(outs[0], outs[1], "another sealing");
     }
+}
+
+/// On a lent ledger: every set, each refusal, hand-made ledgers, and both kinds of call on one ledger.
+fn lent(s: &mut Script) {
+    s.lent = &[true];
+    every_set(s);
+    refusals(s);
+    hand_made(s);
+    s.lent = &[false, true, true];
+    refusals(s);
+    nonces(s);
 }
 
 fn last_word(line: &str) -> &str {

@@ -7,6 +7,7 @@
 //         46..58 that nonce: the ledger is these values, whatever they are
 //   seal: byte 0 is 2; 1 the nonce's length, 2..5, 5..8 and 8..11 the lengths of data, text and output,
 //         11 and 12 the seeds of data and text, 13.. the nonce
+//   lent: byte 0 is 3; the rest as for seal. The ledger is lent to the call, which changes it in place
 //
 // Data, text and what the output holds before a call are made from their seeds by `fill`; the output's
 // seed is 165. The files stdin and stdout beside src/ are what tests/ledger_model.rs writes, the
@@ -15,6 +16,7 @@ use ledger::Ledger;
 use libc::STDIN_FILENO;
 use libc::STDOUT_FILENO;
 ghost use Prim.Native.Nat.{_≤_};
+ghost use Rattle.ledger.specs.Ledger.{LedgerCall};
 
 fn least(a: usize, b: usize) -> usize
     ensures { λ r. ⌜ (r ≤ a) × (r ≤ b) ⌝ }
@@ -68,6 +70,10 @@ fn print_put() {
 
 fn print_seal() {
     io::write_all(STDOUT_FILENO, b"seal");
+}
+
+fn print_lent() {
+    io::write_all(STDOUT_FILENO, b"lent");
 }
 
 fn print_number(n: u64) {
@@ -142,13 +148,56 @@ fn put(r: [u8; 64]) -> Ledger {
     l
 }
 
-fn print_sealed(s: ledger::Sealed, out: &[u8]) {
-    print_seal();
+// The first word of a sealing's line.
+fn print_kind(kind: u8) {
+    if kind == 3 {
+        print_lent();
+    } else {
+        print_seal();
+    }
+}
+
+fn print_sealed(kind: u8, s: ledger::Sealed, out: &[u8]) {
+    print_kind(kind);
     print_number(s.answer as u64);
     let l = s.ledger;
     print_ledger(l);
     print_output(out);
     show::line_end();
+}
+
+// Lends its ledger, and gives back what the call by value does.
+fn seal_lent(
+    mut l: Ledger,
+    nonce: &[u8],
+    header: &[u8],
+    text: &[u8],
+    out: &mut [u8],
+) -> ledger::Sealed
+    ensures { λ r. ⌜ LedgerCall l (now (nonce .entry)) (now (header .entry)) (now (text .entry)) (now (out .entry)) (r .answer) (r .ledger) (now (out .exit)) ⌝ }
+{
+    let answer = ledger::seal_in_place(&mut l, nonce, header, text, out);
+    ledger::Sealed {
+        answer: answer,
+        ledger: l,
+    }
+}
+
+// The call that the record's kind says. Both promise the same.
+fn seal_by(
+    kind: u8,
+    l: Ledger,
+    nonce: &[u8],
+    header: &[u8],
+    text: &[u8],
+    out: &mut [u8],
+) -> ledger::Sealed
+    ensures { λ r. ⌜ LedgerCall l (now (nonce .entry)) (now (header .entry)) (now (text .entry)) (now (out .entry)) (r .answer) (r .ledger) (now (out .exit)) ⌝ }
+{
+    if kind == 3 {
+        return seal_lent(l, nonce, header, text, out);
+    }
+    l.sealed(nonce, header, text, out)
 }
 
 // A sealing of strings that have the record's lengths.
@@ -157,8 +206,9 @@ fn seal(l: Ledger, r: [u8; 64], header: &mut [u8], text: &mut [u8], out: &mut [u
     fill(text, r[12]);
     fill(out, 165);
     let end = 13 + least(r[1] as usize, 51);
-    let s = l.sealed(&r[13..end], header, text, out);
-    print_sealed(s, out);
+    let kind = r[0];
+    let s = seal_by(kind, l, &r[13..end], header, text, out);
+    print_sealed(kind, s, out);
     let next = s.ledger;
     next
 }
