@@ -15,7 +15,7 @@ use Rattle.cba.specs.declared.sets.Parameters.{Parameters}
 use Rattle.cba.specs.declared.sets.Set.{Set}
 use Rattle.cba.specs.declared.sets.Set.the-variants.{Known, Unknown}
 use Rattle.mode.specs.Sets.{isSet, column, capacity, keyBytes, tagBytes, ell, Fits}
-use Rattle.cba.specs.Lookup.{lookupOf}
+use Rattle.cba.specs.Lookup.{lookupOf, valuesOf}
 use Rattle.mode.specs.Seal.{ENC}
 use Rattle.mode.specs.Open.{Opened, Answered, isFalse, messageOf, DEC}
 use Rattle.mode.specs.Open.Opened.{opened, refused}
@@ -29,10 +29,6 @@ use Rattle.sealing.proofs.TailLaws.{size-of}
 isKnown : Set → Bool
 isKnown (Known p) = true
 isKnown Unknown = false
-
-valuesOf : Set → List ℕ
-valuesOf (Known p) = p .key ∷ p .tag ∷ p .capacity ∷ []
-valuesOf Unknown = []
 
 known-is : (p : Parameters) (x : Bool) → isKnown (cond x (Known p) Unknown) ≡ x
 unfolding isKnown

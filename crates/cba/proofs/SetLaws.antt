@@ -1,7 +1,7 @@
 -- Laws of the parameter sets.
 -- Assumes nothing.
-use mathlib.Core.Path.{_≡_, ap, ap₂}
-use mathlib.Core.Bool.{false, true, _&&_}
+use mathlib.Core.Path.{_≡_, refl, ap, ap₂}
+use mathlib.Core.Bool.{Bool, false, true, cond, not, _&&_}
 use mathlib.Core.List.{List, [], _∷_}
 use Prim.Native.Nat.{ℕ, _%_, _<_, _≤_}
 use native.Mathlib.Omega.{arith}
@@ -9,9 +9,11 @@ use lib.Dec.{T, leb}
 use lib.ListN.{getD}
 use borrow.Author.Tests.{lt-leb, le-leb}
 use Rattle.octets.proofs.Tests.{agree, same}
+use Rattle.cba.specs.declared.sets.Parameters.{Parameters}
 use Rattle.cba.specs.declared.sets.Set.the-variants.{Known, Unknown}
 use Rattle.mode.specs.Sets.{isSet, column}
-use Rattle.cba.specs.Lookup.{lookupOf}
+use Rattle.cba.specs.Refusals.{answer}
+use Rattle.cba.specs.Lookup.{lookupOf, numberOf, valuesOf, Lookups}
 
 -- τ and b are bytes
 cut : ℕ → List ℕ
@@ -50,3 +52,19 @@ known n h k = rw (is-set n h k) (ap₂ (λ (x y : ℕ). Known (record { key = co
 pub unknown : (n : ℕ) → isSet n ≡ false → Unknown ≡ lookupOf n
 unfolding lookupOf
 unknown n h = rw h
+
+-- ---- the number and the values of each case
+
+number-at : (p : Parameters) (x : Bool) → numberOf (cond x (Known p) Unknown) ≡ cond (not x) 1 0
+unfolding numberOf
+number-at p true = refl
+number-at p false = refl
+
+values-at : (p : Parameters) (x : Bool) → valuesOf (cond x (Known p) Unknown) ≡ cond x (p .key ∷ p .tag ∷ p .capacity ∷ []) []
+unfolding valuesOf
+values-at p true = refl
+values-at p false = refl
+
+pub lookups : Lookups
+unfolding lookupOf answer
+lookups = record { number-is = λ n. number-at _ (isSet n); values-are = λ n. values-at _ (isSet n) }

@@ -1,3 +1,3 @@
-pub mod Lookup
 pub mod Refusals
+pub mod Lookup
 pub mod Demands

@@ -32,10 +32,14 @@ opening set key N A C = DEC (cipher key) (invCipher key) (tagBits set) (capacity
 abbrev pub setTag : ℕ → ℕ
 setTag set = tagBytes (tagBits set)
 
+-- the first row of every call that takes a set
+abbrev pub setRow : ℕ → Row
+setRow set = record { number = 1; when = not (isSet set) }
+
 -- the checks that both calls begin with, in order; text is a message of at most most bytes, or a ciphertext
 abbrev pub common : ℕ → List ℕ → List ℕ → List ℕ → List ℕ → ℕ → List Row → List Row
 common set key N A text most rows =
-    record { number = 1; when = not (isSet set) }
+    setRow set
     ∷ record { number = 2; when = not (eqb (length key) (keyBytes set)) }
     ∷ record { number = 3; when = not (eqb (length N) 12) }
     ∷ record { number = 4; when = ltb 4096 (length A) }

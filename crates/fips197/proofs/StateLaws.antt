@@ -6,7 +6,7 @@ use Prim.Native.Nat.{ℕ, _+_, _*_, _/_, _%_, _<_}
 use native.Mathlib.Omega.{arith}
 use lib.ListN.{length, getD}
 use Rattle.octets.specs.Strings.{Bytes, Octets}
-use Rattle.octets.proofs.Strings.{byte-at, length-table, getD-table, table-is, table-same, bytes-table}
+use Rattle.octets.proofs.Strings.{byte-at, length-table, getD-table, table-is, bytes-table}
 use Rattle.fips197.specs.State.{at, state}
 
 pub at-state : (f : ℕ → ℕ → ℕ) (r c : ℕ) → r < 4 → c < 4 → at (state f) r c ≡ f r c
@@ -22,10 +22,6 @@ state-is f s e h =
     (λ i l.
     h (i % 4) (i / 4) (omega arith) (omega arith)
     ∙ ap (λ (k : ℕ). getD s k 0) {x = i % 4 + 4 * (i / 4)} {y = i} (omega arith))
-
-pub state-same : (f g : ℕ → ℕ → ℕ) → ((r c : ℕ) → f r c ≡ g r c) → state f ≡ state g
-unfolding state
-state-same f g h = table-same _ _ 16 (λ i l. h (i % 4) (i / 4))
 
 pub at-byte : (s : List ℕ) → Bytes s → (r c : ℕ) → at s r c < 256
 unfolding at

@@ -6,13 +6,15 @@ use libc::STDOUT_FILENO;
 ghost use mathlib.Core.Path.{_≡_};
 ghost use mathlib.Core.Bool.{false};
 ghost use Prim.Native.Nat.{_≤_};
-ghost use lib.ListN.{length};
-ghost use Rattle.hub_run.specs.Stream.{after};
-ghost use Rattle.hub_run.specs.Values.{Sound, stateOf};
+ghost use lib.ListN.{length, take};
+ghost use Rattle.hub_run.specs.Values.{Sound};
+ghost use Rattle.hub.specs.Follows.{Follows};
 
-// The state, whether more is to be read, and whether a write failed.
+// The state, how much of the input was read last, whether more is to be read, and whether a write
+// failed.
 struct Going {
     hub: Hub,
+    read: usize,
     more: bool,
     failed: bool,
 }
@@ -28,7 +30,8 @@ fn write(out: &[u8], n: usize) -> bool
 fn say(h: Hub, line: &mut [u8], chunk: &[u8], out: &mut [u8]) -> Going
     requires { ⌜ 4200 ≤ length (now out) ⌝ }
     requires { ⌜ Sound h (now line) ⌝ }
-    ensures { λ r. ⌜ Sound (r .hub) (now (line .exit)) × (r .failed ≡ false → stateOf (r .hub) (now (line .exit)) ≡ after (stateOf h (now (line .entry))) (now (chunk .entry))) ⌝ }
+    ensures { λ r. ⌜ r .read ≡ length (now (chunk .entry)) ⌝ }
+    ensures { λ r. ⌜ Follows h (now (line .entry)) (now (chunk .entry)) (r .hub) (r .failed) (now (line .exit)) ⌝ }
 {
     let mut next = h;
     let mut used = 0;
@@ -39,6 +42,7 @@ fn say(h: Hub, line: &mut [u8], chunk: &[u8], out: &mut [u8]) -> Going
         if !write(out, f.written) {
             return Going {
                 hub: next,
+                read: chunk.len(),
                 more: false,
                 failed: true,
             };
@@ -46,24 +50,38 @@ fn say(h: Hub, line: &mut [u8], chunk: &[u8], out: &mut [u8]) -> Going
     }
     Going {
         hub: next,
+        read: chunk.len(),
         more: !hub_run::is_over(next),
         failed: false,
     }
 }
 
-// One read, and what it says.
+// Nothing was read.
+fn nothing(h: Hub, more: bool) -> Going
+    ensures { λ r. ⌜ (r .hub ≡ h) × (r .read ≡ 0) × (r .more ≡ more) × (r .failed ≡ false) ⌝ }
+{
+    Going {
+        hub: h,
+        read: 0,
+        more: more,
+        failed: false,
+    }
+}
+
+// One read, and what it says: the state after the bytes that it read, which are the first of input. A
+// read that was interrupted is done again; any other that fails ends the input.
 fn read_some(h: Hub, input: &mut [u8], line: &mut [u8], out: &mut [u8]) -> Going
     requires { ⌜ 4200 ≤ length (now out) ⌝ }
     requires { ⌜ Sound h (now line) ⌝ }
-    ensures { λ r. ⌜ Sound (r .hub) (now (line .exit)) ⌝ }
+    ensures { λ r. ⌜ Follows h (now (line .entry)) (take (r .read) (now (input .exit))) (r .hub) (r .failed) (now (line .exit)) ⌝ }
 {
-    let n = io::count(libc::read(STDIN_FILENO, input), input);
+    let got = libc::read(STDIN_FILENO, input);
+    if got < 0 {
+        return nothing(h, os::errno() == libc::EINTR);
+    }
+    let n = io::count(got, input);
     if n == 0 {
-        return Going {
-            hub: h,
-            more: false,
-            failed: false,
-        };
+        return nothing(h, false);
     }
     say(h, line, &input[..n], out)
 }
@@ -74,11 +92,7 @@ fn read_all(input: &mut [u8], line: &mut [u8], out: &mut [u8]) -> Going
     requires { ⌜ (4097 ≤ length (now line)) × (4200 ≤ length (now out)) ⌝ }
     ensures { λ r. ⌜ Sound (r .hub) (now (line .exit)) ⌝ }
 {
-    let mut g = Going {
-        hub: hub_run::begin(),
-        more: true,
-        failed: false,
-    };
+    let mut g = nothing(hub_run::begin(), true);
     let mut turns = u64::MAX;
     while turns > 0 {
         let h = g.hub;

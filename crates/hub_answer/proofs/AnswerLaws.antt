@@ -164,7 +164,7 @@ result-most true set n s = omega (arith, tag-most set (s .is-set))
 result-most false set n s = omega arith
 
 -- a line that was read, and the call that it asks for
-module _ {s b out out′ : List ℕ} {a : Asked} {r : ℕ} (read : Read s a b) (good : a .good ≡ true) (h : length b + 16 ≤ length out) (called : Called (requestOf a b) out r out′) where
+module _ {s b₀ b out out′ : List ℕ} {a : Asked} {r : ℕ} (read : Read s a b₀ b) (good : a .good ≡ true) (h : length b + 16 ≤ length out) (called : Called (requestOf a b) out r out′) where
   text-length : length (part b (a .header) (a .text)) ≡ a .text - a .header
   text-length = let o = read .ordered good in part-length b (a .header) (a .text) (o .2) (o .3)
 

@@ -1,11 +1,11 @@
 -- The run byte by byte: the state between two bytes, and what each byte adds to the output. A chunk is any string of bytes.
 -- Assumes nothing.
 use mathlib.Core.Path.{_≡_}
-use mathlib.Core.Bool.{Bool, false, cond, not, _&&_, _||_}
+use mathlib.Core.Bool.{Bool, true, false, cond, not, _&&_, _||_}
 use mathlib.Core.List.{List, [], _∷_, _++_}
-use Prim.Native.Nat.{ℕ, _+_}
-use lib.Dec.{eqb}
-use lib.ListN.{length, take, replicate}
+use Prim.Native.Nat.{ℕ, suc, _+_, _-_}
+use lib.Dec.{eqb, ltb}
+use lib.ListN.{length, take, drop, replicate}
 use Rattle.octets.specs.Strings.{eqs}
 use Rattle.hub_text.specs.Lines.{parse}
 use Rattle.hub_answer.specs.Answers.{acceptedSet, lineFor}
@@ -68,6 +68,43 @@ after st (c ∷ s) = after (next st c) s
 unfoldable pub output : State → List ℕ → List ℕ
 output st [] = []
 output st (c ∷ s) = says st c ++ output (next st c) s
+
+-- ---- the buffer that holds the line so far, with what earlier lines left beyond it
+
+-- t over the bytes of b from a place on
+abbrev pub overlaid : ℕ → List ℕ → List ℕ → List ℕ
+overlaid at t b = take at b ++ (t ++ drop (at + length t) b)
+
+-- after a byte, which is put at the end of the line, where it is kept
+unfoldable pub stored : State → List ℕ → ℕ → List ℕ
+stored st b c =
+    cond (over st) b (cond (eqb c 10) b (cond (ltb (length (st .line)) 4097) (overlaid (length (st .line)) (c ∷ []) b) b))
+
+-- after a chunk
+unfoldable pub buffer : State → List ℕ → List ℕ → List ℕ
+buffer st b [] = b
+buffer st b (c ∷ s) = buffer (next st c) (stored st b c) s
+
+-- ---- how much of a chunk is used up at once
+
+-- up to the end of its first line, or all of it
+unfoldable pub firstLength : List ℕ → ℕ
+firstLength [] = 0
+firstLength (c ∷ s) = suc (cond (eqb c 10) 0 (firstLength s))
+
+abbrev pub lineUsed : State → List ℕ → ℕ
+lineUsed st s = cond (over st) (length s) (firstLength s)
+
+-- One line after the other, as long as the output has room for a line more, 4,200 bytes. room is the output's length, w what has been
+-- said; new says that a line has just ended.
+unfoldable pub usedFrom : Bool → State → ℕ → ℕ → List ℕ → ℕ
+usedFrom new st room w [] = 0
+usedFrom new st room w (c ∷ s) =
+    cond (new && ltb (room - w) 4200) 0
+    (suc (usedFrom (not (over st) && eqb c 10) (next st c) room (w + length (says st c)) s))
+
+abbrev pub chunkUsed : State → ℕ → List ℕ → ℕ
+chunkUsed st room s = usedFrom true st room 0 s
 
 -- ---- the end of the input
 

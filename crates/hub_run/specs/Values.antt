@@ -9,7 +9,7 @@ use Rattle.hub_text.specs.Writing.{Puts}
 use Rattle.hub_run.specs.declared.state.Hub.{Hub}
 use Rattle.hub_run.specs.declared.line.Step.{Step}
 use Rattle.hub_run.specs.declared.chunk.Fed.{Fed}
-use Rattle.hub_run.specs.Stream.{State, begin, over, ended, endSays, after, output, pending}
+use Rattle.hub_run.specs.Stream.{State, begin, over, ended, endSays, longer, after, output, overlaid, buffer, lineUsed, chunkUsed, pending}
 
 abbrev pub stateOf : Hub → List ℕ → State
 stateOf h line = record { lines = h .lines; wrong = h .wrong; counts = h .counts; line = take (h .length) line }
@@ -46,10 +46,25 @@ pub record Goes (st : State) (s : List ℕ) (h : Hub) (line : List ℕ) (r : ℕ
 abbrev pub Ends : Hub → List ℕ → Step → List ℕ → List ℕ → Type 0
 Ends h line r d out = Goes (ended (stateOf h line)) (endSays (stateOf h line)) (r .hub) line (r .written) d out
 
--- what feeding a chunk promises: r says how much of it is used up, s; and where it has a byte, one at least is
-pub record Feeds (h : Hub) (line chunk : List ℕ) (r : Fed) (line′ d out : List ℕ) : Type 0 where
+-- what keeping more of the line promises
+pub record Keeps (h : Hub) (line piece : List ℕ) (r : Hub) (line′ : List ℕ) : Type 0 where
+  pub sound : Sound r line′
+  pub state-is : stateOf r line′ ≡ longer (stateOf h line) piece
+  pub line-is : line′ ≡ overlaid (h .length) (take (4097 - h .length) piece) line
+
+-- what feeding n bytes of a chunk promises; where it has a byte, one at least is used up
+pub record Feeds (n : ℕ) (h : Hub) (line chunk : List ℕ) (r : Fed) (line′ d out : List ℕ) : Type 0 where
+  pub used-is : r .used ≡ n
   pub used-most : r .used ≤ length chunk
   pub used-some : 0 < length chunk → 0 < r .used
   pub written-most : r .written ≤ length d
   pub goes : let s = take (r .used) chunk in
       Goes (after (stateOf h line) s) (output (stateOf h line) s) (r .hub) line′ (r .written) d out
+  pub line-is : line′ ≡ buffer (stateOf h line) line (take (r .used) chunk)
+
+-- a line of it, and as much as there is room for
+abbrev pub FeedsLine : Hub → List ℕ → List ℕ → Fed → List ℕ → List ℕ → List ℕ → Type 0
+FeedsLine h line chunk r line′ d out = Feeds (lineUsed (stateOf h line) chunk) h line chunk r line′ d out
+
+abbrev pub FeedsChunk : Hub → List ℕ → List ℕ → Fed → List ℕ → List ℕ → List ℕ → Type 0
+FeedsChunk h line chunk r line′ d out = Feeds (chunkUsed (stateOf h line) (length d) chunk) h line chunk r line′ d out

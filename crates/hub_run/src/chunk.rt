@@ -3,10 +3,9 @@ use crate::line::end_line;
 use crate::state::Hub;
 use crate::state::is_over;
 ghost use mathlib.Core.Path.{_≡_};
-ghost use Prim.Native.Nat.{_<_, _≤_, min};
+ghost use Prim.Native.Nat.{_≤_, min};
 ghost use lib.ListN.{length};
-ghost use Rattle.hub_run.specs.Stream.{longer};
-ghost use Rattle.hub_run.specs.Values.{Sound, Feeds, stateOf};
+ghost use Rattle.hub_run.specs.Values.{Sound, Keeps, FeedsLine, FeedsChunk};
 
 // The next state, how many bytes of the chunk are used up, and how many are said.
 pub struct Fed {
@@ -24,7 +23,7 @@ fn least(a: usize, b: usize) -> usize
 // More of the line, of which no more than 4,097 bytes are kept.
 fn keep(h: Hub, line: &mut [u8], piece: &[u8]) -> Hub
     requires { ⌜ Sound h (now line) ⌝ }
-    ensures { λ r. ⌜ Sound r (now (line .exit)) × (stateOf r (now (line .exit)) ≡ longer (stateOf h (now (line .entry))) (now (piece .entry))) ⌝ }
+    ensures { λ r. ⌜ Keeps h (now (line .entry)) (now (piece .entry)) r (now (line .exit)) ⌝ }
 {
     let at = h.length;
     let counts = h.counts;
@@ -42,7 +41,7 @@ fn keep(h: Hub, line: &mut [u8], piece: &[u8]) -> Hub
 fn feed_line(h: Hub, line: &mut [u8], chunk: &[u8], out: &mut [u8]) -> Fed
     requires { ⌜ 4200 ≤ length (now out) ⌝ }
     requires { ⌜ Sound h (now line) ⌝ }
-    ensures { λ r. ⌜ Feeds h (now (line .entry)) (now (chunk .entry)) r (now (line .exit)) (now (out .entry)) (now (out .exit)) ⌝ }
+    ensures { λ r. ⌜ FeedsLine h (now (line .entry)) (now (chunk .entry)) r (now (line .exit)) (now (out .entry)) (now (out .exit)) ⌝ }
 {
     if is_over(h) {
         return Fed {
@@ -74,7 +73,7 @@ fn feed_line(h: Hub, line: &mut [u8], chunk: &[u8], out: &mut [u8]) -> Fed
 pub fn feed(h: Hub, line: &mut [u8], chunk: &[u8], out: &mut [u8]) -> Fed
     requires { ⌜ 4200 ≤ length (now out) ⌝ }
     requires { ⌜ Sound h (now line) ⌝ }
-    ensures { λ r. ⌜ Feeds h (now (line .entry)) (now (chunk .entry)) r (now (line .exit)) (now (out .entry)) (now (out .exit)) ⌝ }
+    ensures { λ r. ⌜ FeedsChunk h (now (line .entry)) (now (chunk .entry)) r (now (line .exit)) (now (out .entry)) (now (out .exit)) ⌝ }
 {
     let mut next = h;
     let mut used = 0;

@@ -14,7 +14,7 @@ use native.Mathlib.Nat.{le-antisymm}
 use native.Mathlib.Numerals.{add-one}
 use Rattle.mode.proofs.FormLaws.{le-or-lt}
 use Rattle.hub_text.specs.declared.cut.Cut.{Cut}
-use Rattle.hub_text.specs.Cuts.{Cuts}
+use Rattle.hub_text.specs.Cuts.{noCut, Cuts}
 use Rattle.hub_text.specs.Lines.{joinFirst, wordsOf, lengthBefore, wordEnd, part}
 
 pub before-most : (x : ℕ) (s : List ℕ) → lengthBefore x s ≤ length s
@@ -133,10 +133,16 @@ found-over {s} {i} v e w n z =
     let g = ap length (words-first (drop (e + 1) s)) in
     absurd (omega (arith, f .counts, g, z))
 
-pub other-cut : (s : List ℕ) (r : Cut) → r .good ≡ false → (length (wordsOf s) ≡ 6 → ⊥) → Cuts s r
-other-cut s r g n =
+pub other-cut : (s : List ℕ) (r : Cut) → r ≡ noCut → (length (wordsOf s) ≡ 6 → ⊥) → Cuts s r
+other-cut s r e n =
+    let g : r .good ≡ false = ap (λ (x : Cut). x .good) e in
     let never : r .good ≡ true → ⊥ = λ t. subst T (sym t ∙ g) tt in
-    record { good-is = g ∙ sym (ne-eqb (length (wordsOf s)) 6 n); ordered = λ t. absurd (never t); words-are = λ t. absurd (never t) }
+    record {
+      good-is = g ∙ sym (ne-eqb (length (wordsOf s)) 6 n);
+      else = λ t. e;
+      ordered = λ t. absurd (never t);
+      words-are = λ t. absurd (never t);
+    }
 
 pub six-cut : (s : List ℕ) (a b c d e f : ℕ) → a ≡ wordEnd s 0 → (a ≡ length s → ⊥) → b ≡ wordEnd s (a + 1) → (b ≡ length s → ⊥) →
     c ≡ wordEnd s (b + 1) → (c ≡ length s → ⊥) → d ≡ wordEnd s (c + 1) → (d ≡ length s → ⊥) → e ≡ wordEnd s (d + 1) → (e ≡ length s → ⊥) →
@@ -160,6 +166,7 @@ six-cut s a b c d e f wa na wb nb wc nc wd nd we ne wf z =
     (me .0 ∙ ap (λ (x : List (List ℕ)). part s (d + 1) e ∷ x) last)))) in
     record {
       good-is = sym (eq-eqb (length (wordsOf s)) 6 (ap length all));
+      else = λ t. absurd (subst T t tt);
       ordered = λ t. (omega (arith, wb), omega (arith, wc), omega (arith, wd), omega (arith, we), me .1);
       words-are = λ t. all;
     }

@@ -2,7 +2,7 @@
 -- Assumes nothing.
 use mathlib.Core.Path.{_≡_, refl, sym, ap, subst, _∙_}
 use mathlib.Core.Bool.{Bool, true, false, _&&_, _||_}
-use mathlib.Core.List.{List, [], _∷_, _++_}
+use mathlib.Core.List.{List, [], _∷_, _++_, append-assoc}
 use Prim.Native.Nat.{ℕ, zero, suc, _+_, _-_, _*_, _/_, _<_, _≤_}
 use native.Mathlib.Numerals.{add-one}
 use native.Mathlib.Omega.{arith}
@@ -12,14 +12,14 @@ use lib.ListN.{length, take, drop, getD, length-append, length-take, length-drop
 use lib.Seq.{drop-cons, take-at, drop-at, take-nil, take-take}
 use Rattle.octets.specs.Strings.{eqs}
 use Rattle.octets.proofs.Tests.{eqs-other}
-use Rattle.octets.proofs.Parts.{put-at}
+use Rattle.octets.proofs.Parts.{put-at, drop-put}
 use Rattle.hub_text.specs.declared.cut.Cut.{Cut}
 use Rattle.hub_text.specs.declared.request.Asked.{Asked}
 use Rattle.hub_text.specs.Numerals.{isSetNumber, decimalValue, isValue, valueOf}
 use Rattle.hub_text.specs.Lines.{sealWord, openWord, part, fromSix, fromWords, parse}
 use Rattle.hub_text.specs.Lines.Parsed.{malformed}
 use Rattle.hub_text.specs.Cuts.{Cuts}
-use Rattle.hub_text.specs.Requests.{wellFormedAt, Next, Read}
+use Rattle.hub_text.specs.Requests.{wellFormedAt, Next, noneAsked, Read}
 use Rattle.hub_text.proofs.HexLaws.{of-dash, of-pairs, length-unhex}
 use Rattle.hub_text.proofs.NumeralLaws.{both}
 
@@ -105,6 +105,13 @@ module _ {v : List ℕ} {i j : ℕ} {a b : List ℕ} (x : Next v i j a b) (h : j
   next-here =
       rw (x .over, drop-at (take i a) (v ++ drop j a) i next-first)
       (take-at v (drop j a) (j - i) (omega (arith, x .ends)))
+
+  -- and what stands after it
+  next-after : (n : ℕ) → j ≤ n → drop n b ≡ drop n a
+  next-after n l =
+      let e : length (take i a ++ v) ≡ j = length-append (take i a) v ∙ omega (arith, next-first, x .ends) in
+      ap (drop n) (x .over ∙ sym (append-assoc (take i a) v (drop j a)) ∙ ap (λ (k : ℕ). (take i a ++ v) ++ drop k a) (sym e))
+      ∙ drop-put (take i a ++ v) a n (omega (arith, e, l))
 
   next-before : (m n : ℕ) → n ≤ i → part b m n ≡ part a m n
   next-before m n l =
@@ -192,10 +199,16 @@ module _ {s : List ℕ} {w : Cut} (cuts : Cuts s w) (most : length s ≤ 4096) w
   unfolding fromSix
   parse-not g e = parse-six g ∙ rw e
 
-pub read-malformed : (s b : List ℕ) (r : Asked) → r .good ≡ false → parse s ≡ malformed → Read s r b
-read-malformed s b r g e =
-    let never : r .good ≡ true → ⊥ = λ t. subst T (sym t ∙ g) tt in
-    record { malformed-is = λ z. e; asked-is = λ t. absurd (never t); ordered = λ t. absurd (never t) }
+pub read-malformed : (s b : List ℕ) (r : Asked) → r ≡ noneAsked → parse s ≡ malformed → Read s r b b
+read-malformed s b r n e =
+    let never : r .good ≡ true → ⊥ = λ t. subst T (sym t ∙ ap (λ (x : Asked). x .good) n) tt in
+    record {
+      malformed-is = λ z. e;
+      else = λ z. (n, refl);
+      asked-is = λ t. absurd (never t);
+      after = λ t. absurd (never t);
+      ordered = λ t. absurd (never t);
+    }
 
 -- ---- a request read
 
@@ -237,7 +250,7 @@ pub read-asked : {s : List ℕ} {w : Cut} → Asks s w → {v₁ v₂ v₃ v₄ 
     v₄ ≡ part s (w .c + 1) (w .d) → Next (valueOf v₄) k n b₁ b₂ →
     v₅ ≡ part s (w .d + 1) (w .e) → Next (valueOf v₅) n m b₂ b₃ →
     v₆ ≡ part s (w .e + 1) (length s) → Next (valueOf v₆) m t b₃ b₄ →
-    Read s (record { good = true; seals = seals; set = set; key = k; nonce = n; header = m; text = t }) b₄
+    Read s (record { good = true; seals = seals; set = set; key = k; nonce = n; header = m; text = t }) b₀ b₄
 unfolding fromSix
 read-asked {s} {w} h {v₁} {v₂} {v₃} {v₄} {v₅} {v₆} {b₀} {b₁} {b₂} {b₃} {b₄} {seals} {set} {k} {n} {m} {t} room e₁ x₁ e₂ x₂ e₃ x₃ e₄ x₄ e₅ x₅ e₆ x₆ =
     let o = words h in
@@ -245,6 +258,7 @@ read-asked {s} {w} h {v₁} {v₂} {v₃} {v₄} {v₅} {v₆} {b₀} {b₁} {b�
     let g₄ = stage-next (o .key) g₃ e₃ x₃ in
     let g₅ = stage-next (o .nonce) g₄ e₄ x₄ in
     let g₆ = stage-next (o .header) g₅ e₅ x₅ in
+    let i₃ = ends-in (o .key) g₃ e₃ x₃ in
     let i₄ = ends-in (o .nonce) g₄ e₄ x₄ in
     let i₅ = ends-in (o .header) g₅ e₅ x₅ in
     let i₆ = ends-in (o .text) g₆ e₆ x₆ in
@@ -252,12 +266,15 @@ read-asked {s} {w} h {v₁} {v₂} {v₃} {v₄} {v₅} {v₆} {b₀} {b₁} {b�
     let l₂ : n ≤ m = omega (arith, x₅ .ends) in
     let l₃ : m ≤ t = omega (arith, x₆ .ends) in
     let p₃ : part b₄ 0 k ≡ valueOf v₃ =
-    next-before x₆ i₆ 0 k (omega arith) ∙ next-before x₅ i₅ 0 k l₁ ∙ next-before x₄ i₄ 0 k (omega arith) ∙ next-here x₃ (ends-in (o .key) g₃ e₃ x₃) in
+    next-before x₆ i₆ 0 k (omega arith) ∙ next-before x₅ i₅ 0 k l₁ ∙ next-before x₄ i₄ 0 k (omega arith) ∙ next-here x₃ i₃ in
     let p₄ : part b₄ k n ≡ valueOf v₄ = next-before x₆ i₆ k n l₂ ∙ next-before x₅ i₅ k n (omega arith) ∙ next-here x₄ i₄ in
     let p₅ : part b₄ n m ≡ valueOf v₅ = next-before x₆ i₆ n m (omega arith) ∙ next-here x₅ i₅ in
     let p₆ : part b₄ m t ≡ valueOf v₆ = next-here x₆ i₆ in
     record {
       malformed-is = λ z. absurd (subst T z tt);
+      else = λ z. absurd (subst T z tt);
+      after = λ z.
+          next-after x₆ i₆ t (omega arith) ∙ next-after x₅ i₅ t l₃ ∙ next-after x₄ i₄ t (omega (arith, l₂, l₃)) ∙ next-after x₃ i₃ t (omega (arith, l₁, l₂, l₃));
       asked-is = λ z. parse-six (h .cuts) (h .most) (h .good) ∙ rw (h .formed, x₁, x₂, p₃, p₄, p₅, p₆, e₁, e₂, e₃, e₄, e₅, e₆);
       ordered = λ z. (l₁, l₂, l₃, omega (arith, i₆, next-long x₆ i₆));
     }

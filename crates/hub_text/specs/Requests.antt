@@ -39,8 +39,14 @@ requestOf r b =
       text = part b (r .header) (r .text);
     }
 
--- r is what the line says, b being the bytes that were read off it
-pub record Read (s : List ℕ) (r : Asked) (b : List ℕ) : Type 0 where
+-- of a malformed line
+abbrev pub noneAsked : Asked
+noneAsked = record { good = false; seals = false; set = 0; key = 0; nonce = 0; header = 0; text = 0 }
+
+-- r is what the line says, and b is a with the bytes that were read off the line over its first
+pub record Read (s : List ℕ) (r : Asked) (a b : List ℕ) : Type 0 where
   pub malformed-is : r .good ≡ false → parse s ≡ malformed
+  pub else : r .good ≡ false → (r ≡ noneAsked) × (b ≡ a)
   pub asked-is : r .good ≡ true → parse s ≡ asked (requestOf r b)
+  pub after : r .good ≡ true → drop (r .text) b ≡ drop (r .text) a
   pub ordered : r .good ≡ true → (r .key ≤ r .nonce) × (r .nonce ≤ r .header) × (r .header ≤ r .text) × (r .text ≤ length b)

@@ -1,10 +1,9 @@
 // A line cut at its spaces.
 ghost use mathlib.Core.Path.{_≡_};
-ghost use mathlib.Core.Bool.{false};
 ghost use Prim.Native.Nat.{_+_, _≤_};
 ghost use lib.ListN.{length};
 ghost use Rattle.hub_text.specs.Lines.{lengthBefore, wordEnd};
-ghost use Rattle.hub_text.specs.Cuts.{Cuts};
+ghost use Rattle.hub_text.specs.Cuts.{noCut, Cuts};
 
 // The places of the five spaces, where there are six words.
 pub struct Cut {
@@ -40,7 +39,7 @@ fn word_end(line: &[u8], from: usize) -> usize
 
 // A line of another number of words.
 fn other() -> Cut
-    ensures { λ r. ⌜ r .good ≡ false ⌝ }
+    ensures { λ r. ⌜ r ≡ noCut ⌝ }
 {
     Cut {
         good: false,

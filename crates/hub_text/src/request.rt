@@ -6,14 +6,14 @@ use crate::decimal::set_number;
 use crate::hex::is_value;
 use crate::hex::read_value;
 ghost use mathlib.Core.Path.{_≡_};
-ghost use mathlib.Core.Bool.{true, false, _||_};
+ghost use mathlib.Core.Bool.{true, _||_};
 ghost use Prim.Native.Nat.{_+_, _/_, _≤_};
 ghost use lib.ListN.{length};
 ghost use Rattle.octets.specs.Strings.{eqs};
 ghost use Rattle.hub_text.specs.Numerals.{isValue, valueOf};
 ghost use Rattle.hub_text.specs.Lines.{sealWord, openWord, part};
 ghost use Rattle.hub_text.specs.Cuts.{Cuts};
-ghost use Rattle.hub_text.specs.Requests.{wellFormedAt, Next, Read};
+ghost use Rattle.hub_text.specs.Requests.{wellFormedAt, Next, noneAsked, Read};
 
 // A request's act and set, and where its strings end in the bytes that were read; good is false for
 // a malformed line.
@@ -114,7 +114,7 @@ fn read_request(line: &[u8], w: Cut, bytes: &mut [u8]) -> Asked
     requires { ⌜ Cuts (now line) w ⌝ }
     requires { ⌜ (length (now line) ≤ 4096) × (2048 ≤ length (now bytes)) ⌝ }
     requires { ⌜ wellFormedAt (now line) w ≡ true ⌝ }
-    ensures { λ r. ⌜ Read (now (line .entry)) r (now (bytes .exit)) ⌝ }
+    ensures { λ r. ⌜ Read (now (line .entry)) r (now (bytes .entry)) (now (bytes .exit)) ⌝ }
 {
     let seals = is_seal(word(line, 0, w.a));
     let set = set_number(word(line, w.a + 1, w.b));
@@ -134,7 +134,7 @@ fn read_request(line: &[u8], w: Cut, bytes: &mut [u8]) -> Asked
 }
 
 fn malformed() -> Asked
-    ensures { λ r. ⌜ r .good ≡ false ⌝ }
+    ensures { λ r. ⌜ r ≡ noneAsked ⌝ }
 {
     Asked {
         good: false,
@@ -150,7 +150,7 @@ fn malformed() -> Asked
 // What a line of at most 4,096 bytes says.
 pub fn read_line(line: &[u8], bytes: &mut [u8]) -> Asked
     requires { ⌜ (length (now line) ≤ 4096) × (2048 ≤ length (now bytes)) ⌝ }
-    ensures { λ r. ⌜ Read (now (line .entry)) r (now (bytes .exit)) ⌝ }
+    ensures { λ r. ⌜ Read (now (line .entry)) r (now (bytes .entry)) (now (bytes .exit)) ⌝ }
 {
     let w = spaces(line);
     if !w.good {

@@ -18,7 +18,7 @@ use Rattle.cba.specs.declared.sets.Set.the-variants.{Known}
 use Rattle.cba.specs.Lookup.{lookupOf}
 use Rattle.mode.specs.Sets.{isSet, keyBytes, capacity}
 use Rattle.mode.specs.Charge.{charge}
-use Rattle.cba.specs.Refusals.{answer, setTag, sealing, sealLeaves, sealOutput, SealCall}
+use Rattle.cba.specs.Refusals.{answer, setTag, sealing, sealAnswer, sealLeaves, sealOutput, SealCall}
 use Rattle.cba.specs.Demands.{Passed}
 use Rattle.cba.proofs.AnswerLaws.{not-false, past-row, is-known, its-key, key-most, set-fits, seal-refusals}
 use Rattle.cba.proofs.RefusalLaws.{seal-untouched}
@@ -134,27 +134,31 @@ module _ (l : Ledger) (N A M : List ℕ) where
       let k : ledgerAnswer l N A M (length out) ≡ 0 → ⊥ = λ z. n (e ∙ z) in
       (e, sym (rw (ne-eqb (ledgerAnswer l N A M (length out)) 0 k) refl), sym (seal-untouched (ledgerAnswer l N A M (length out)) (sealing (l .set) (keyOf l) N A M) out k))
 
-  -- an acceptance: what plain sealing left is the ledger's output
-  pub ledger-accepted : (out : List ℕ) (n a : ℕ) (l′ : Ledger) (out′ : List ℕ) → n ≤ length (l .key) → n ≡ keyBytes (l .set) → ledgerAnswer l N A M (length out) ≡ 0 →
-      SealCall (l .set) (take n (l .key)) N A M out a out′ → l′ ≡ charged l N (charge (length A) (length M)) → LedgerCall l N A M out a l′ out′
-  unfolding nextLedger ledgerOutput keyOf sealOutput
-  ledger-accepted out n a l′ out′ lk en e call el =
-      let k = keyOf l in
+  -- an acceptance is one of plain sealing
+  pub ledger-plain : (out : List ℕ) → keyBytes (l .set) ≤ length (l .key) → ledgerAnswer l N A M (length out) ≡ 0 →
+      SealCall (l .set) (keyOf l) N A M out 0 (ledgerOutput l N A M out)
+  unfolding ledgerOutput keyOf sealOutput
+  ledger-plain out lk e =
       let p = ledger-ready (length out) e .0 in
-      let call′ : SealCall (l .set) k N A M out a out′ = subst (λ (m : ℕ). SealCall (l .set) (take m (l .key)) N A M out a out′) en call in
-      let q : Passed (l .set) k N A M 65536 =
+      let q : Passed (l .set) (keyOf l) N A M 65536 =
       record {
         is-set = p .is-set;
-        key-length = length-take-le (keyBytes (l .set)) (l .key) (omega (arith, lk, en));
+        key-length = length-take-le (keyBytes (l .set)) (l .key) lk;
         nonce-length = p .nonce-length;
         data-limit = p .data-limit;
         text-limit = p .text-limit;
       } in
-      let z : a ≡ 0 = seal-refusals (l .set) k N A M out a out′ call′ .accept q (p .enough) in (
-        z ∙ sym e,
-        el ∙ sym (rw e refl),
-        call′ .1 ∙ ap (λ (x : ℕ). sealLeaves x (sealing (l .set) k N A M) out) (sym (call′ .0) ∙ z ∙ sym e),
-      )
+      let z : sealAnswer (l .set) (keyOf l) N A M out ≡ 0 = seal-refusals (l .set) (keyOf l) N A M out _ _ (refl, refl) .accept q (p .enough) in
+      (sym z, ap (λ (x : ℕ). sealLeaves x (sealing (l .set) (keyOf l) N A M) out) (e ∙ sym z))
+
+  -- so what plain sealing left is the ledger's output
+  pub ledger-accepted : (out : List ℕ) (n a : ℕ) (l′ : Ledger) (out′ : List ℕ) → n ≤ length (l .key) → n ≡ keyBytes (l .set) → ledgerAnswer l N A M (length out) ≡ 0 →
+      SealCall (l .set) (take n (l .key)) N A M out a out′ → l′ ≡ charged l N (charge (length A) (length M)) → LedgerCall l N A M out a l′ out′
+  unfolding nextLedger keyOf
+  ledger-accepted out n a l′ out′ lk en e call el =
+      let call′ : SealCall (l .set) (keyOf l) N A M out a out′ = subst (λ (m : ℕ). SealCall (l .set) (take m (l .key)) N A M out a out′) en call in
+      let p = ledger-plain out (omega (arith, lk, en)) e in
+      (call′ .0 ∙ sym (p .0) ∙ sym e, el ∙ sym (rw e refl), call′ .1 ∙ sym (p .1))
 
   -- the total after an acceptance is a word
   pub ledger-word : (room c : ℕ) → ledgerAnswer l N A M room ≡ 0 → c ≡ charge (length A) (length M) → l .total + c < 18446744073709551616

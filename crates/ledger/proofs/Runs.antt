@@ -14,10 +14,11 @@ use Rattle.octets.proofs.Numbers.{length-digits, number-digits}
 use Rattle.mode.specs.Sets.{isSet, capacity, column}
 use Rattle.mode.specs.Charge.{charge}
 use Rattle.cba.specs.Refusals.{setTag}
+use Rattle.cba.proofs.AnswerLaws.{key-most}
 use Rattle.ledger.specs.declared.ledger.Ledger.{Ledger}
 use Rattle.ledger.specs.Ledger.{fresh, madeLedger, stale, spent, ledgerAnswer, charged, nextLedger, Ready}
 use Rattle.ledger.specs.Runs.{Call, answerOn, after, chargeOf, run, accepted, charges, RisingFrom, Rising, Kept, repeated, LedgerTheorems}
-use Rattle.ledger.proofs.LedgerLaws.{made-is, make-good, ledger-refusals, ledger-ready, ledger-total, ledger-refused}
+use Rattle.ledger.proofs.LedgerLaws.{made-is, make-good, ledger-refusals, ledger-ready, ledger-total, ledger-refused, ledger-plain}
 
 -- ---- one call
 
@@ -177,6 +178,9 @@ ledger-theorems =
       kept = λ set key cs e.
           let h = holds cs (fresh set key) in
           subst (λ (l : Ledger). Kept l cs) (sym (made-is set key e)) (record { total = h .sum ∙ omega arith; most = h .within (omega arith); nonces = h .rise-new });
+      plain = λ l c k e.
+          let s = ledger-ready l (c .nonce) (c .header) (c .text) (length (c .out)) e .0 .is-set in
+          ledger-plain l (c .nonce) (c .header) (c .text) (c .out) (omega (arith, key-most (l .set) s, k)) e;
       refused = λ l c n. let r = ledger-refused l (c .nonce) (c .header) (c .text) (c .out) _ refl n in (sym (r .1), sym (r .2));
       full = λ key M out k m o. ap (λ (l : Ledger). run l (repeated 16 M out) .total) (made-one key k) ∙ full key M out m o;
       over = λ key M out M′ out′ k m o h g.

@@ -9,7 +9,7 @@ use lib.ListN.{length, take, replicate}
 use Rattle.octets.specs.Numbers.{number}
 use Rattle.mode.specs.Sets.{isSet, keyBytes, capacity}
 use Rattle.mode.specs.Charge.{charge}
-use Rattle.cba.specs.Refusals.{Row, answer, setTag, sealing, sealLeaves}
+use Rattle.cba.specs.Refusals.{Row, answer, setRow, setTag, sealing, sealLeaves}
 use Rattle.ledger.specs.declared.ledger.Ledger.{Ledger}
 
 -- no ledger: set 0, a key of zeros, total 0 and no nonce
@@ -19,7 +19,7 @@ noLedger = record { set = 0; key = replicate 32 0; total = 0; begun = false; las
 -- ---- making: 1, then 2
 
 unfoldable pub makeRows : ℕ → List ℕ → List Row
-makeRows set key = record { number = 1; when = not (isSet set) } ∷ record { number = 2; when = not (eqb (length key) (keyBytes set)) } ∷ []
+makeRows set key = setRow set ∷ record { number = 2; when = not (eqb (length key) (keyBytes set)) } ∷ []
 
 unfoldable pub makeAnswer : ℕ → List ℕ → ℕ
 makeAnswer set key = answer (makeRows set key)
@@ -48,7 +48,7 @@ spent l A M = ltb (2 ^ capacity (l .set)) (l .total + charge (length A) (length 
 -- in order; room is the output's length
 unfoldable pub ledgerRows : Ledger → List ℕ → List ℕ → List ℕ → ℕ → List Row
 ledgerRows l N A M room =
-    record { number = 1; when = not (isSet (l .set)) }
+    setRow (l .set)
     ∷ record { number = 3; when = not (eqb (length N) 12) }
     ∷ record { number = 4; when = ltb 4096 (length A) }
     ∷ record { number = 5; when = ltb 65536 (length M) }

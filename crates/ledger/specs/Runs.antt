@@ -10,7 +10,8 @@ use Rattle.octets.specs.Numbers.{number, digits}
 use Rattle.mode.specs.Sets.{capacity}
 use Rattle.mode.specs.Charge.{charge}
 use Rattle.ledger.specs.declared.ledger.Ledger.{Ledger}
-use Rattle.ledger.specs.Ledger.{makeAnswer, madeLedger, ledgerAnswer, nextLedger, ledgerOutput}
+use Rattle.cba.specs.Refusals.{SealCall}
+use Rattle.ledger.specs.Ledger.{makeAnswer, madeLedger, keyOf, ledgerAnswer, nextLedger, ledgerOutput}
 
 -- what one sealing is given
 pub record Call : Type 0 where
@@ -66,6 +67,10 @@ repeated (suc n) M out = repeated n M out ++ (record { nonce = digits 12 (suc n)
 pub record LedgerTheorems : Type 0 where
   -- for every list of sealings from a fresh ledger, one just made and not refused
   pub kept : (set : ℕ) (key : List ℕ) (cs : List Call) → makeAnswer set key ≡ 0 → Kept (madeLedger set key) cs
+  -- an accepted call, on any ledger, has the answer and the output of plain sealing under the ledger's set and key; in a ledger value the
+  -- key has 32 bytes
+  pub plain : (l : Ledger) (c : Call) → length (l .key) ≡ 32 → answerOn l c ≡ 0 →
+      SealCall (l .set) (keyOf l) (c .nonce) (c .header) (c .text) (c .out) 0 (ledgerOutput l (c .nonce) (c .header) (c .text) (c .out))
   -- every refused call, on any ledger, changes neither the ledger nor the output
   pub refused : (l : Ledger) (c : Call) → (answerOn l c ≡ 0 → ⊥) → (after l c ≡ l) × (ledgerOutput l (c .nonce) (c .header) (c .text) (c .out) ≡ c .out)
   -- on set 1 sixteen messages of 65,536 bytes fill the capacity

@@ -92,11 +92,6 @@ pub two-number : (x : ℕ) → x < 2 ^ 64 → two (digits 8 x) ≡ digits 8 (dou
 unfolding two
 two-number x h = ap (λ (k : ℕ). digits 8 (doubled k)) (number-digits 8 x ∙ mod-eq-of-lt h)
 
--- 3·A
-pub three-number : (x : ℕ) → x < 2 ^ 64 → three (digits 8 x) ≡ digits 8 (bitXor x (doubled x))
-unfolding three
-three-number x h = ap (xors (digits 8 x)) (two-number x h) ∙ sym (digits-xor 8 x (doubled x))
-
 pub double-number : (x : ℕ) → x < 2 ^ 64 → digits 8 (bitXor (x / 0x8000000000000000 * 0x1b) (x % 0x8000000000000000 * 2)) ≡ two (digits 8 x)
 unfolding doubled
 double-number x h =

@@ -14,7 +14,7 @@ use Rattle.octets.proofs.Strings.{bytes-take, bytes-drop, bytes-replicate}
 use Rattle.octets.proofs.Blocks.{length-block}
 use Rattle.mode.specs.Sets.{tagBytes, ell}
 use Rattle.mode.specs.Offsets.{F, leading, lastBytes}
-use Rattle.mode.specs.Data.{blockSum, withRest, dataSum, L, dataHash, tagOfData}
+use Rattle.mode.specs.Data.{blockSum, withRest, dataSum, dataHash, tagOfData}
 use Rattle.mode.specs.Seal.{checksum, cipherBlocks, R, Δ₀, masked, shortTag, T, joinedBlock, joinedLast, joinedEnd, joinedTail, lastBlock, lastOffset, separateTag, separateTail, sealAs, ENC}
 use Rattle.mode.specs.Forms.{Form, fullBlocks, lastLength}
 use Rattle.mode.specs.Forms.Form.{short, joined, separate}
@@ -83,10 +83,6 @@ module _ (E : List ℕ → List ℕ) (E-octets : (x : List ℕ) → Octets 16 x 
       record { size = p .size ∙ omega arith; small = p .small }
 
   module _ (τ b : ℕ) (τ-byte : τ < 256) (b-byte : b < 256) (t-most : tagBytes τ ≤ 16) where
-    L-octets : Octets 16 (L E τ b)
-    unfolding L
-    L-octets = E-octets _ (record { size = refl; small = (omega arith, (omega arith, bytes-replicate 14 0 (omega arith))) })
-
     -- T_A has t bytes
     pub tagOfData-octets : (A : List ℕ) → Bytes A → Octets (tagBytes τ) (tagOfData E τ b A)
     unfolding tagOfData dataHash

@@ -11,6 +11,7 @@ ghost use Rattle.fips197.specs.Schedule.{isKey};
 ghost use Rattle.fips197.specs.Cipher.{cipher};
 ghost use Rattle.aes.specs.Context.{contextOf};
 ghost use Rattle.mode.specs.Data.{withRest, dataSum, dataHash};
+ghost use Rattle.mode_steps.specs.Walk.{depth};
 
 // The sum with E(block ⊕ offset) added.
 fn added(
@@ -48,10 +49,12 @@ fn with_rest(
     added(key, ctx, sum, pad(rest), step(3, 3, offset))
 }
 
-// The sum after all of the data, a call for each full block: at most 256 deep for 4,096 bytes.
+// The sum after all of the data, a call for each full block. `depth`, the calls that are still to
+// come, falls at each call and is at most 256.
 fn walk(key: &[u8], ctx: &aes::Context, sum: [u8; 16], offset: [u8; 16], rest: &[u8]) -> [u8; 16]
     requires { ⌜ isKey (now key) ≡ true ⌝ }
     requires { ⌜ now ctx ≡ contextOf (now key) ⌝ }
+    requires { ⌜ depth (now rest) ≤ 256 ⌝ }
     ensures { λ r. ⌜ r ≡ dataSum (cipher (now (key .entry))) sum offset (now (rest .entry)) ⌝ }
 {
     if rest.len() < 16 {

@@ -1,22 +1,13 @@
 -- A string cut into blocks of k bytes.
 -- Assumes nothing.
-use mathlib.Core.Path.{_≡_, refl, ap, _∙_}
+use mathlib.Core.Path.{_≡_, ap, _∙_}
 use mathlib.Core.List.{List, _++_}
-use Prim.Native.Nat.{ℕ, zero, suc, _+_, _*_, _≤_}
-use native.Mathlib.Nat.{mul-zero, mul-suc, add-comm}
+use Prim.Native.Nat.{ℕ, suc, _+_, _*_, _≤_}
+use native.Mathlib.Nat.{mul-suc, add-comm}
 use native.Mathlib.Omega.{arith}
-use lib.ListN.{length, take, drop, take-append-drop, length-take, length-drop}
-use lib.Seq.{take-add, drop-drop, take-append-le, drop-append-le}
-use Rattle.octets.specs.Blocks.{block, blocks}
-
--- the first n blocks are the string's first k n bytes, so with what follows them they are the string
-pub blocks-take : (k : ℕ) (s : List ℕ) (n : ℕ) → blocks k s n ≡ take (k * n) s
-unfolding blocks
-blocks-take k s zero = rw mul-zero refl
-blocks-take k s (suc n) = rw (mul-suc, take-add, blocks-take k s n)
-
-pub blocks-all : (k : ℕ) (s : List ℕ) (n : ℕ) → blocks k s n ++ drop (k * n) s ≡ s
-blocks-all k s n = rw blocks-take (take-append-drop (k * n) s)
+use lib.ListN.{length, take, drop, length-take, length-drop}
+use lib.Seq.{drop-drop, take-append-le, drop-append-le}
+use Rattle.octets.specs.Blocks.{block}
 
 -- a full block has k bytes
 pub length-block : (k : ℕ) (s : List ℕ) (i : ℕ) → k * suc i ≤ length s → length (block k s i) ≡ k

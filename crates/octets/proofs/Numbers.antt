@@ -3,7 +3,7 @@
 use mathlib.Core.Path.{_≡_, refl, sym, ap, ap₂, _∙_}
 use mathlib.Core.List.{List, [], _∷_, _++_}
 use Prim.Native.Nat.{ℕ, zero, suc, _+_, _-_, _*_, _/_, _%_, _^_, _<_}
-use native.Mathlib.Nat.{mod-eq-of-lt, pow-suc, pow-succ', mul-assoc, mul-comm, add-mul, mul-add-div-right, zero-add, suc-add, le-of-suc-le-suc, not-suc-le-zero, div-div-eq-div-mul}
+use native.Mathlib.Nat.{mod-eq-of-lt, pow-suc, pow-succ', mul-assoc, add-mul, mul-add-div-right, le-of-suc-le-suc, not-suc-le-zero}
 use native.Mathlib.Numerals.{add-one}
 use native.Mathlib.Omega.{arith}
 use lib.Arith.{digits-lt, digits-div, mod-mul}
@@ -68,15 +68,6 @@ number-append [] t = omega arith
 number-append (x ∷ s) t =
     rw (length-append s t, number-append s t, pow-add 256 (length s) (length t))
     (omega (arith, mul-assoc x (256 ^ length s) (256 ^ length t), add-mul (x * 256 ^ length s) (number s) (256 ^ length t)))
-
-pub digits-append : (m n x : ℕ) → digits (m + n) x ≡ digits m (x / 256 ^ n) ++ digits n x
-unfolding digits
-digits-append zero n x = ap (λ (k : ℕ). digits k x) (zero-add n)
-digits-append (suc m) n x =
-    ap (λ (k : ℕ). digits k x) (suc-add m n)
-    ∙ ap₂ _∷_
-    (ap (λ (k : ℕ). k % 256) (ap (λ (p : ℕ). x / p) (pow-add 256 m n ∙ mul-comm (256 ^ m) (256 ^ n)) ∙ sym (div-div-eq-div-mul x (256 ^ n) (256 ^ m))))
-    (digits-append m n x)
 
 pub power-two : (n : ℕ) → 256 ^ n ≡ 2 ^ (8 * n)
 power-two zero = refl

@@ -8,7 +8,7 @@ use native.Mathlib.Omega.{arith}
 use lib.Arith.{bin-ind}
 use lib.Bits.{bitXor, differ, xor-step, xor-comm, xor-self, xor-zero-l, xor-lt}
 use lib.ListN.{length, take, drop, getD, replicate, length-take, length-drop}
-use lib.Seq.{take-all, getD-take, getD-drop}
+use lib.Seq.{getD-take, getD-drop}
 use Rattle.octets.specs.Strings.{Bytes, table}
 use Rattle.octets.specs.Xor.{xors}
 use Rattle.octets.proofs.Strings.{table-is, table-same}
@@ -85,9 +85,6 @@ xors-assoc (x ∷ a) [] c = refl
 xors-assoc (x ∷ a) (y ∷ b) [] = refl
 xors-assoc (x ∷ a) (y ∷ b) (z ∷ c) = ap₂ _∷_ (xor-assoc x y z) (xors-assoc a b c)
 
-pub xors-left-comm : (a b c : List ℕ) → xors a (xors b c) ≡ xors b (xors a c)
-xors-left-comm a b c = sym (xors-assoc a b c) ∙ ap (λ (s : List ℕ). xors s c) (xors-comm a b) ∙ xors-assoc b a c
-
 pub xors-cancel : (a b : List ℕ) → length b ≤ length a → xors a (xors a b) ≡ b
 unfolding xors
 xors-cancel [] [] h = refl
@@ -105,9 +102,6 @@ unfolding xors
 xors-zero zero a = refl
 xors-zero (suc n) [] = refl
 xors-zero (suc n) (x ∷ a) = ap (λ (s : List ℕ). x ∷ s) (xors-zero n a)
-
-pub xors-zero-right : (n : ℕ) (a : List ℕ) → length a ≤ n → xors a (replicate n 0) ≡ a
-xors-zero-right n a h = xors-comm a (replicate n 0) ∙ xors-zero n a ∙ take-all n a h
 
 pub take-xors : (n : ℕ) (a b : List ℕ) → take n (xors a b) ≡ xors (take n a) (take n b)
 unfolding xors

@@ -45,10 +45,10 @@ pub fn tag_bytes(tag: u8) -> usize
 }
 
 // R, the first offset, and T_A with zeros before it.
-pub struct Begun {
-    pub r: [u8; 16],
-    pub offset: [u8; 16],
-    pub data: [u8; 16],
+struct Start {
+    r: [u8; 16],
+    offset: [u8; 16],
+    data: [u8; 16],
 }
 
 fn begin(
@@ -58,7 +58,7 @@ fn begin(
     capacity: u8,
     nonce: &[u8],
     header: &[u8],
-) -> Begun
+) -> Start
     requires { ⌜ isKey (now key) ≡ true ⌝ }
     requires { ⌜ now ctx ≡ contextOf (now key) ⌝ }
     requires { ⌜ Fits tag capacity ⌝ }
@@ -69,11 +69,17 @@ fn begin(
     let offset = start(r, first_bits(tag, capacity));
     let h = data_hash(key, ctx, tag, capacity, header);
     let data = right_aligned(&h[..(tag / 8) as usize]);
-    Begun {
+    Start {
         r: r,
         offset: offset,
         data: data,
     }
+}
+
+// The first offset, and T_A with zeros before it.
+pub struct Begun {
+    pub offset: [u8; 16],
+    pub data: [u8; 16],
 }
 
 // C_0 over the first bytes of out, after begin.
@@ -93,10 +99,15 @@ pub fn cover(
     requires { ⌜ (length (now nonce) ≡ 12) × (length (now header) ≤ 4096) × (length (now first) ≤ 16) × (length (now first) ≤ length (now out)) ⌝ }
     ensures { λ b. ⌜ (b .offset ≡ Δ₀ (cipher (now (key .entry))) tag capacity (now (nonce .entry))) × (b .data ≡ leading 16 (tagOfData (cipher (now (key .entry))) tag capacity (now (header .entry)))) × (length (tagOfData (cipher (now (key .entry))) tag capacity (now (header .entry))) ≡ tagBytes tag) × (now (out .exit) ≡ masked (cipher (now (key .entry))) tag capacity (now (nonce .entry)) (now (first .entry)) ++ drop (length (now (first .entry))) (now (out .entry))) ⌝ }
 {
-    let b = begin(key, ctx, tag, capacity, nonce, header);
-    let r = b.r;
+    let s = begin(key, ctx, tag, capacity, nonce, header);
+    let r = s.r;
+    let offset = s.offset;
+    let data = s.data;
     mask(r, 16 - first.len(), first, out);
-    b
+    Begun {
+        offset: offset,
+        data: data,
+    }
 }
 
 // The first offset, and T with zeros before it.

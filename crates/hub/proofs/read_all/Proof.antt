@@ -17,7 +17,7 @@ loop-again c =
     let r = c .before .before .before .before .before .before .before .before .read-some in
     let v = c .before .before .before .before .before .before .before .before .before .before .before .before .before .before .loop .inv in
     record {
-      sound = r .ensures;
+      sound = r .ensures .sound;
       same-input = r .kept .1 .0 ∙ v .same-input;
       same-line = r .kept .1 .1 .0 ∙ v .same-line;
       same-out = r .kept .1 .1 .1 .0 ∙ v .same-out;
@@ -30,7 +30,8 @@ read-all-spec =
     Inv-loop
     μ-loop
     (λ c κs. search needs)
-    (λ c. let at = c .before .before .before .before in record { sound = c .begin .ensures (at .args .line .now) (at .pre .0) .0; same-input = refl; same-line = refl; same-out = refl })
+    (λ c κs. search needs)
+    (λ c. let at = c .before .before .before .before .before in record { sound = rw (c .nothing .ensures .0) (c .before .begin .ensures (at .args .line .now) (at .pre .0) .0); same-input = refl; same-line = refl; same-out = refl })
     (λ c κs. search needs)
     (λ c. search needs)
     (λ c. search needs)

@@ -1,6 +1,6 @@
 -- `hub::say` meets its contract.
 -- Assumes nothing.
-use mathlib.Core.Path.{subst}
+use mathlib.Core.Path.{refl, subst}
 use lib.Dec.{T}
 use Prim.Native.Nat.{_-_}
 use borrow.Author.Needs.{needs}
@@ -30,10 +30,10 @@ say-spec =
     (λ c κs. search needs)
     (λ c. search needs)
     (λ c. search needs)
-    (λ c. (c .before .before .before .before .before .before .before .before .before .feed .ensures .goes .sound, λ e. absurd (subst T e tt)))
+    (λ c. (refl, record { sound = c .before .before .before .before .before .before .before .before .before .feed .ensures .goes .sound; state-is = λ e. absurd (subst T e tt) }))
     (λ c. used-further _ _ (c .before .before .before .before .before .before .before .before .before .before .before .before .before .before .loop .inv) (c .before .before .before .before .before .before .before .before .before .before .before .before .before .loop-test .taken) (c .before .before .before .before .before .before .before .before .before .feed .ensures))
     (λ c. let f = c .before .before .before .before .before .before .before .before .before .feed in said-more _ _ (c .before .before .before .before .before .before .before .before .before .before .before .before .before .before .loop .inv) (c .before .before .before .before .before .before .before .before .before .before .before .before .before .loop-test .taken) (f .ensures) (f .kept .1 .0) (f .kept .1 .1 .1 .0))
     (λ c κs. search needs)
     (λ c. search needs)
     (λ c. search needs)
-    (λ c. let v = c .before .before .loop .inv in (v .sound, λ e. said-all v (c .before .loop-test .left))))
+    (λ c. let v = c .before .before .loop .inv in (refl, record { sound = v .sound; state-is = λ e. said-all v (c .before .loop-test .left) })))

@@ -31,7 +31,7 @@ feed-spec =
     (λ c. search needs)
     (λ c. let m = feeding-small (c .before .before .before .before .before .before .before .before .before .before .before .before .before .loop .inv) _ (c .before .before .before .before .before .before .before .feed-line .ensures .written-most) in search (needs, m))
     (λ c. feeding-less (c .before .before .before .before .before .before .before .before .before .before .before .before .before .loop .inv) _ _ _ _ (c .before .before .before .before .before .before .before .before .before .before .before .before .loop-test .taken) (c .before .before .before .before .before .before .before .feed-line .ensures))
-    (λ c. let f = c .before .before .before .before .before .before .before .feed-line in feeding-turn (c .before .before .before .before .before .before .before .before .before .before .before .before .before .loop .inv) (f .result) (f .last .1 .0) (f .last .1 .1 .1 .0) (f .kept .1 .0) (f .kept .1 .1 .1 .0) (c .before .before .before .before .before .before .before .before .before .before .before .before .loop-test .taken) (f .ensures))
+    (λ c. let f = c .before .before .before .before .before .before .before .feed-line in feeding-turn (c .before .before .before .before .before .before .before .before .before .before .before .before .before .loop .inv) (f .result) (f .last .1 .0) (f .last .1 .1 .1 .0) (f .kept .1 .0) (f .kept .1 .1 .1 .0) (c .before .before .before .before .before .before .before .before .before .before .before .before .loop-test .taken) (c .before .before .before .before .before .before .before .before .before .before .before .if1 .left) (f .ensures))
     (λ c. search needs)
     (λ c. search needs)
     (λ c. feeding-end (c .before .loop .inv) (c .loop-test .left))

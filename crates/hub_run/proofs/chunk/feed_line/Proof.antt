@@ -23,7 +23,7 @@ end-line-requires : tie.Need-end-line-requires
 end-line-requires c κs =
     let at = c .before .before .before .before .before .before .before .before .before .before .before .before .before .before in
     let k = c .before .before .before .before .before .keep .ensures in
-    (ap over (k .1) ∙ longer-over _ _ ∙ sym (c .before .before .before .before .before .before .before .before .before .before .is-over .ensures (at .args .line .now)) ∙ c .before .before .before .before .before .before .before .before .before .if1 .left, (at .pre .0, k .0))
+    (ap over (k .state-is) ∙ longer-over _ _ ∙ sym (c .before .before .before .before .before .before .before .before .before .before .is-over .ensures (at .args .line .now)) ∙ c .before .before .before .before .before .before .before .before .before .if1 .left, (at .pre .0, k .sound))
 
 returns-3 : tie.Need-returns-3
 returns-3 c =

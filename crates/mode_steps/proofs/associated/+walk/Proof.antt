@@ -1,4 +1,5 @@
--- `mode_steps::associated::walk` meets its contract. The measure is the length of what is left, which falls by 16 at each call.
+-- `mode_steps::associated::walk` meets its contract. The measure is `depth`, at most 256, which falls by one at each call: what is left
+-- is shorter by 16 bytes.
 -- Assumes nothing.
 use mathlib.Core.Path.{_∙_}
 use Prim.Native.Nat.{ℕ, _<_}
@@ -9,6 +10,7 @@ use borrow.Author.Needs.{needs}
 use borrow.Fn.Kinds.{In}
 use borrow.Fn.PlainCycle.{Measures, is, falls, and}
 use Rattle.fips197.specs.Cipher.{cipher}
+use Rattle.mode_steps.specs.Walk.{depth}
 use Rattle.mode_steps.proofs.DataLaws.{dataSum-rest, walk-turn}
 use Rattle.mode_steps.proofs.associated.walk.Reads as walk
 use Rattle.mode_steps.proofs.associated.walk.Kinds as walk-kinds
@@ -21,7 +23,7 @@ use Rattle.mode_steps.proofs.associated.+walk.{statement}
 use Rattle.mode_steps.proofs.associated.+walk.Tie.{close}
 
 abbrev μ-walk : Measures 3 walk-kinds.ps ℕ
-μ-walk κs a = length (now (a .1 .1 .1 .1 .0))
+μ-walk κs a = depth (now (a .1 .1 .1 .1 .0))
 
 abbrev walk-at : ℕ → In 3 walk-kinds.ps
 walk-at t = and 3 walk-kinds.ps (is 3 walk-kinds.ps μ-walk t) walk.Pre
@@ -54,7 +56,9 @@ pub +walk-spec : {M : Type 1} → statement M
     (λ c. search needs)
     (λ c. search needs)
     (λ c. search needs)
-    (λ c κs. (simp (length-take, length-drop) (omega arith), search needs))
+    (λ c κs.
+    let p = c .before .before .before .before .before .before .before .pre .1 in
+    (simp (length-take, length-drop) (omega arith), (p .0, (p .1 .0, simp (length-take, length-drop) (omega (arith, p .1 .1))))))
     (λ c.
     let at-added = c .before .before in
     let at-step = at-added .before .before in
