@@ -58,10 +58,10 @@ enum cba_answer {
 };
 
 /* The bytes of stack that are enough for a call with so many bytes of data, and for any call:
-   112 KiB. The data are walked by a recursion, a call for each 16 bytes. The figures are measured
+   96 KiB. The data are walked by a recursion, a call for each 16 bytes. The figures are measured
    and rounded up, not proved. The caller's own frames, and what a thread keeps on its stack, are not
    in them. A call does not notice that its stack is too small. */
-#define CBA_STACK_FOR(data_len) (16384 + 24 * (data_len))
+#define CBA_STACK_FOR(data_len) (16384 + 20 * (data_len))
 #define CBA_STACK CBA_STACK_FOR(4096)
 
 /* The calls have no state and use no heap: any number of threads may call at once.

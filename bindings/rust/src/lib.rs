@@ -20,7 +20,7 @@
 //!   bytes, and may be able to make a ciphertext that opens.
 //! * All sealings under one key use at most [`Set::blocks`] blocks. One uses ⌈data bytes / 16⌉ + ⌈message bytes /
 //!   16⌉. Nothing here counts them.
-//! * A call needs up to 112 KiB of stack: 16 KiB, and 24 bytes for each byte of data. This is measured, not proved, and
+//! * A call needs up to 96 KiB of stack: 16 KiB, and 20 bytes for each byte of data. This is measured, not proved, and
 //!   a call does not notice that its stack is too small.
 //!
 //! A call has no state: any number of threads may call at once.

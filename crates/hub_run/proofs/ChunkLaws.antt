@@ -18,8 +18,8 @@ use Rattle.hub_text.specs.Lines.{lengthBefore}
 use Rattle.hub_text.specs.Writing.{Puts}
 use Rattle.hub_run.specs.declared.state.Hub.{Hub}
 use Rattle.hub_run.specs.declared.chunk.Fed.{Fed}
-use Rattle.hub_run.specs.Stream.{State, over, ended, endSays, longer, next, says, after, output, overlaid, buffer, firstLength, lineUsed, usedFrom, chunkUsed}
-use Rattle.hub_run.specs.Values.{stateOf, Sound, Goes, Keeps, Feeds, FeedsLine, FeedsChunk}
+use Rattle.hub_run.specs.Stream.{State, over, ended, endSays, longer, next, says, after, output, overlaid, buffer, usedFrom, chunkUsed}
+use Rattle.hub_run.specs.Values.{stateOf, Sound, Goes, Keeps, FeedsLine, FeedsChunk}
 use Rattle.hub_run.proofs.CuttingLaws.{after-append, output-append, over-stays, kept-more}
 use Rattle.hub_run.proofs.BufferLaws.{buffer-append, over-keeps, end-keeps, piece-kept}
 use Rattle.hub_run.proofs.UsedLaws.{first-all, first-line, goes-on, stops, none-left, line-used}

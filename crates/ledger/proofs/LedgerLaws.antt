@@ -2,12 +2,12 @@
 -- Assumes nothing.
 use mathlib.Core.Path.{_≡_, refl, sym, ap, ap₂, subst, _∙_}
 use mathlib.Core.Bool.{Bool, true, false, cond, not}
-use mathlib.Core.List.{List, _++_, append-nil}
-use Prim.Native.Nat.{ℕ, zero, suc, _+_, _-_, _/_, _^_, _<_, _≤_}
+use mathlib.Core.List.{List}
+use Prim.Native.Nat.{ℕ, suc, _+_, _-_, _/_, _^_, _<_, _≤_}
 use native.Mathlib.Omega.{arith}
 use borrow.Author.Tests.{eq-eqb, ne-eqb, eqb-true, lt-ltb, le-ltb, ltb-false, le-leb, lt-leb}
 use lib.Dec.{eqb, ltb}
-use lib.ListN.{length, take, drop, replicate, drop-of-length-le}
+use lib.ListN.{length, take}
 use lib.Pow.{pow-lt}
 use lib.Seq.{length-take-le}
 use mathlib.Core.Logic.{⊎-elim}
@@ -24,26 +24,6 @@ use Rattle.cba.proofs.AnswerLaws.{not-false, past-row, is-known, its-key, key-m
 use Rattle.cba.proofs.RefusalLaws.{seal-untouched}
 use Rattle.ledger.specs.declared.ledger.Ledger.{Ledger}
 use Rattle.ledger.specs.Ledger.{noLedger, fresh, makeRows, makeAnswer, madeLedger, keyOf, stale, spent, ledgerRows, ledgerAnswer, charged, nextLedger, ledgerOutput, LedgerCall, Ready, LedgerRefusals}
-
--- ---- arrays
-
-drop-replicate : (k n x : ℕ) → drop k (replicate n x) ≡ replicate (n - k) x
-drop-replicate zero n x = ap (λ (m : ℕ). replicate m x) {x = n} {y = n - 0} (omega arith)
-drop-replicate (suc k) zero x = ap (λ (m : ℕ). replicate m x) {x = 0} {y = 0 - suc k} (omega arith)
-drop-replicate (suc k) (suc n) x = drop-replicate k n x ∙ ap (λ (m : ℕ). replicate m x) {x = n - k} {y = suc n - suc k} (omega arith)
-
--- a key put over zeros, and a nonce that fills its array
-pub fresh-key : (set : ℕ) (key put : List ℕ) → put ≡ key ++ drop (length key) (replicate 32 0) →
-    record { set = set; key = put; total = 0; begun = false; last = replicate 12 0 } ≡ fresh set key
-fresh-key set key put e =
-    ap (λ (k : List ℕ). record { set = set; key = k; total = 0; begun = false; last = replicate 12 0 })
-    (e ∙ ap (λ (z : List ℕ). key ++ z) (drop-replicate (length key) 32 0))
-
-pub last-nonce : (l : Ledger) (N put : List ℕ) (c : ℕ) → length N ≡ 12 → put ≡ N ++ drop (length N) (replicate 12 0) →
-    record { set = l .set; key = l .key; total = l .total + c; begun = true; last = put } ≡ charged l N c
-last-nonce l N put c h e =
-    ap (λ (k : List ℕ). record { set = l .set; key = l .key; total = l .total + c; begun = true; last = k })
-    (e ∙ ap (λ (z : List ℕ). N ++ z) (drop-of-length-le (replicate 12 0) {i = length N} (omega (arith, h))) ∙ append-nil N)
 
 -- ---- making
 

@@ -1,3 +1,4 @@
 pub mod CheckLaws
 pub mod LedgerLaws
 pub mod Runs
+pub mod ValueLaws

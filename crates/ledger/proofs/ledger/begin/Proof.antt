@@ -1,6 +1,6 @@
 -- `ledger::ledger::begin` meets its contract.
 -- Assumes nothing.
-use Rattle.ledger.proofs.LedgerLaws.{fresh-key}
+use Rattle.ledger.proofs.ValueLaws.{fresh-key}
 use borrow.Author.Needs.{needs}
 use Rattle.ledger.proofs.ledger.begin.Statement.{statement}
 use Rattle.ledger.proofs.ledger.begin.Tie as tie

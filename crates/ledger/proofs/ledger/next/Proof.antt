@@ -1,6 +1,6 @@
 -- `ledger::ledger::next` meets its contract.
 -- Assumes nothing.
-use Rattle.ledger.proofs.LedgerLaws.{last-nonce}
+use Rattle.ledger.proofs.ValueLaws.{last-nonce}
 use borrow.Author.Needs.{needs}
 use Rattle.ledger.proofs.ledger.next.Statement.{statement}
 use Rattle.ledger.proofs.ledger.next.Tie as tie
