@@ -1,7 +1,8 @@
 /* CBA v1-1 over AES: authenticated encryption of one record.
 
-   cba_seal makes a ciphertext of a message. cba_open gives the message back, or refuses. Both are in libcba.a,
-   for Linux on x86-64, which needs memcpy and memset of the C library and nothing else. */
+   cba_seal makes a ciphertext of a message. cba_open gives the message back, or refuses. Both are
+   in libcba.a, for Linux on x86-64, which needs memcpy and memset of the C library and nothing
+   else. */
 #ifndef CBA_H
 #define CBA_H
 
@@ -21,30 +22,34 @@ extern "C" {
        tag        4   4   8   8   8  12  12  12   8  12
        capacity  16  32  16  32  48  16  32  48  32  48
 
-   The limits of all sets: a nonce has 12 bytes, data have at most 4,096, a message has at most 65,536. A
-   ciphertext is as long as its message and the set's tag together. Of all strings of its length one in 256 to
-   the tag opens: a guess at random opens with that chance. */
+   The limits of all sets: a nonce has 12 bytes, data have at most 4,096, a message has at most
+   65,536. A ciphertext is as long as its message and the set's tag together. Of all strings of its
+   length one in 256 to the tag opens: a guess at random opens with that chance. */
 
 /* What the caller sees to, and no call can check:
 
-   The key is random and secret. Set and key are known to the one who opens, and not taken from the record.
+   The key is random and secret. Set and key are known to the one who opens, and not taken from the
+   record.
 
-   A nonce is never used twice to seal under one key. It need be neither random nor secret: a count will do.
-   Whoever sees two ciphertexts under one key and nonce learns where blocks of 16 bytes of their messages are the
-   same and the exclusive or of some others of their bytes, and may be able to make a ciphertext that opens.
+   A nonce is never used twice to seal under one key. It need be neither random nor secret: a count
+   will do. Whoever sees two ciphertexts under one key and nonce learns where blocks of 16 bytes of
+   their messages are the same and the exclusive or of some others of their bytes, and may be able
+   to make a ciphertext that opens.
 
-   All sealings under one key use at most 2 to the capacity of blocks. One uses ceil(data_len / 16) +
-   ceil(text_len / 16). These calls do not count; a ledger does (crates/ledger, for callers in Rattle).
+   All sealings under one key use at most 2 to the capacity of blocks. One uses ceil(data_len / 16)
+   + ceil(text_len / 16). These calls do not count; a ledger does (crates/ledger, for callers in
+   Rattle).
 
-   Each pointer is to as many bytes as its length says. Where that is 0 the pointer is not used, and may be NULL
-   or any other. out must not overlap an input, so that nothing is sealed or opened in place; inputs may overlap
-   each other. */
+   Each pointer is to as many bytes as its length says. Where that is 0 the pointer is not used, and
+   may be NULL or any other. out must not overlap an input, so that nothing is sealed or opened in
+   place; inputs may overlap each other. */
 
-/* The answers. They are looked for from 1 up, and the first that applies is given; 0 where none does.
+/* The answers. They are looked for from 1 up, and the first that applies is given; 0 where none
+   does.
 
-   CBA_OK: the result is in the first bytes of out, and the bytes after it are as before. CBA_FALSE: as many bytes
-   as the message would have are 0 in out, and the bytes after them are as before. Any other answer: all of out is
-   as before. No input is ever changed. */
+   CBA_OK: the result is in the first bytes of out, and the bytes after it are as before. CBA_FALSE:
+   as many bytes as the message would have are 0 in out, and the bytes after them are as before. Any
+   other answer: all of out is as before. No input is ever changed. */
 enum cba_answer {
     CBA_OK = 0,     /* sealed, or opened */
     CBA_SET = 1,    /* set is not 1 to 10 */
@@ -54,24 +59,25 @@ enum cba_answer {
     CBA_TEXT = 5,   /* text_len is over 65,536 in sealing, over 65,536 + the set's tag in opening */
     CBA_STUB = 6,   /* opening: text_len is less than the set's tag */
     CBA_BUFFER = 7, /* out_len is less than the result's length */
-    CBA_FALSE = 8   /* opening: no message seals to this ciphertext under this set, key, nonce and data */
+    CBA_FALSE = 8   /* opening: no message seals to this ciphertext under these other inputs */
 };
 
-/* The bytes of stack that are enough for a call with so many bytes of data, and for any call:
-   96 KiB. The data are walked by a recursion, a call for each 16 bytes. The figures are measured
-   and rounded up, not proved. The caller's own frames, and what a thread keeps on its stack, are not
-   in them. A call does not notice that its stack is too small. */
+/* The bytes of stack that are enough for a call with so many bytes of data, and for any call: 96
+   KiB. The data are walked by a recursion, a call for each 16 bytes. The figures are measured and
+   rounded up, not proved. The caller's own frames, and what a thread keeps on its stack, are not in
+   them. A call does not notice that its stack is too small. */
 #define CBA_STACK_FOR(data_len) (16384 + 20 * (data_len))
 #define CBA_STACK CBA_STACK_FOR(4096)
 
 /* The calls have no state and use no heap: any number of threads may call at once.
 
-   Proved, for every input: the answer, the result and every byte of out; that sealing is CBA v1-1's ENC over AES,
-   and opening its DEC; that no call reads or writes outside its arguments, or runs for ever.
+   Proved, for every input: the answer, the result and every byte of out; that sealing is CBA v1-1's
+   ENC over AES, and opening its DEC; that no call reads or writes outside its arguments, or runs
+   for ever.
 
-   Not proved: that CBA is hard to break; how long a call takes (AES's tables are read at places that depend on the
-   key, so that the time may tell of it); that nothing of a key is left on the stack; the compiler's back end; that
-   a caller's pointers are right. */
+   Not proved: that CBA is hard to break; how long a call takes (AES's tables are read at places
+   that depend on the key, so that the time may tell of it); that nothing of a key is left on the
+   stack; the compiler's back end; that a caller's pointers are right. */
 
 /* Seals a message.
 
@@ -97,8 +103,9 @@ uint32_t cba_seal(uint32_t set,
    text   the ciphertext: at least the tag's bytes, at most 65,536 more
    out    for the message: text_len bytes less the tag's; it may be longer
 
-   Answers CBA_OK, or CBA_SET to CBA_FALSE. After CBA_OK the message is the one that seals to this ciphertext.
-   CBA_FALSE says that the ciphertext, or another input, is not what it was at the sealing. */
+   Answers CBA_OK, or CBA_SET to CBA_FALSE. After CBA_OK the message is the one that seals to this
+   ciphertext. CBA_FALSE says that the ciphertext, or another input, is not what it was at the
+   sealing. */
 uint32_t cba_open(uint32_t set,
                   const uint8_t *key, size_t key_len,
                   const uint8_t *nonce, size_t nonce_len,
