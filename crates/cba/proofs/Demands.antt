@@ -16,10 +16,11 @@ use Rattle.octets.proofs.Count.{count-scheme}
 use Rattle.fips197.specs.Cipher.{cipher, invCipher}
 use Rattle.fips197.proofs.Inverses.{inverses}
 use Rattle.mode.specs.Sets.{isSet, keyBytes, tagBits, capacity}
+use Rattle.mode.specs.Data.{tagOfData}
 use Rattle.mode.specs.Open.{Opened, isFalse, messageOf, DEC}
 use Rattle.mode.specs.Open.Opened.{opened, refused}
 use Rattle.mode.specs.RoundTrip.{BlockCipher, RoundTrip}
-use Rattle.mode.proofs.RoundTrip.{round-trip, refused-opens}
+use Rattle.mode.proofs.RoundTrip.{data-trip, refused-opens}
 use Rattle.cba.specs.Refusals.{setTag, sealing, opening, sealAnswer, openAnswer, over, sealLeaves, sealOutput, openLeaves, openOutput, OpenCall}
 use Rattle.cba.specs.Demands.{Passed, AllBytes, Demand1, Demand2, Given, Message, Decided, Demand3, Speaks}
 use Rattle.cba.proofs.AnswerLaws.{set-fits, set-key, seal-refusals, open-refusals, seal-passed, open-passed}
@@ -38,12 +39,12 @@ aes set key s k =
       E-undoes-D = λ x o. inverses .E-undoes-D key x (k .small) h o;
     }
 
-trip : (set : ℕ) (key N A : List ℕ) → isSet set ≡ true → Octets (keyBytes set) key → Octets 12 N → Bytes A → RoundTrip (cipher key) (invCipher key) (tagBits set) (capacity set) N A
-trip set key N A s k n a = round-trip (cipher key) (invCipher key) (aes set key s k) (tagBits set) (capacity set) (set-fits set s) N A n a
+trip : (set : ℕ) (key N A : List ℕ) → isSet set ≡ true → Octets (keyBytes set) key → Octets 12 N → Bytes A → RoundTrip (cipher key) (invCipher key) (tagBits set) (capacity set) N (tagOfData (cipher key) (tagBits set) (capacity set) A)
+trip set key N A s k n a = data-trip (cipher key) (invCipher key) (aes set key s k) (tagBits set) (capacity set) (set-fits set s) N A n a
 
 -- ---- the outputs of accepted calls
 
-module _ (set : ℕ) (key N A : List ℕ) (v : RoundTrip (cipher key) (invCipher key) (tagBits set) (capacity set) N A) where
+module _ (set : ℕ) (key N A : List ℕ) (v : RoundTrip (cipher key) (invCipher key) (tagBits set) (capacity set) N (tagOfData (cipher key) (tagBits set) (capacity set) A)) where
   sealed-out : (M out : List ℕ) → Bytes M → sealAnswer set key N A M out ≡ 0 → sealOutput set key N A M out ≡ sealing set key N A M ++ drop (length M + setTag set) out
   unfolding sealOutput sealLeaves sealing
   sealed-out M out b e =
@@ -76,7 +77,7 @@ by-refusal (opened M) h = absurd (omega (arith, h))
 by-refusal refused h = refl
 
 -- the round trip under what an accepted call has
-accepted-trip : (set : ℕ) (key N A text : List ℕ) (most : ℕ) → Passed set key N A text most → AllBytes key N A text → RoundTrip (cipher key) (invCipher key) (tagBits set) (capacity set) N A
+accepted-trip : (set : ℕ) (key N A text : List ℕ) (most : ℕ) → Passed set key N A text most → AllBytes key N A text → RoundTrip (cipher key) (invCipher key) (tagBits set) (capacity set) N (tagOfData (cipher key) (tagBits set) (capacity set) A)
 accepted-trip set key N A text most p b =
     trip set key N A (p .is-set) (record { size = p .key-length; small = b .key-bytes }) (record { size = p .nonce-length; small = b .nonce-bytes }) (b .data-bytes)
 
@@ -107,7 +108,7 @@ module _ (set : ℕ) (key N A : List ℕ) (g : Given set key N A) where
   abbrev t : ℕ
   t = setTag set
 
-  v : RoundTrip (cipher key) (invCipher key) (tagBits set) (capacity set) N A
+  v : RoundTrip (cipher key) (invCipher key) (tagBits set) (capacity set) N (tagOfData (cipher key) (tagBits set) (capacity set) A)
   v = trip set key N A (g .is-set) (g .its-key) (g .its-nonce) (g .its-data)
 
   -- a sealing opens, to its message

@@ -2,6 +2,7 @@
 use crate::sets::Parameters;
 use crate::sets::Set;
 use crate::sets::lookup;
+use mode_steps::data_hash;
 use opening::open_text;
 use sealing::tag_bytes;
 ghost use mathlib.Core.Path.{_≡_};
@@ -16,7 +17,8 @@ ghost use Rattle.cba.specs.Lookup.{lookupOf};
 ghost use Rattle.mode.specs.Open.{DEC, Answered};
 ghost use Rattle.cba.specs.Refusals.{OpenCall};
 
-// The opening of an input that no check before it refuses: the key schedule, once, and DEC.
+// The opening of an input that no check before it refuses: the key schedule, once, the
+// walk over the data, and DEC.
 fn open_checked(
     tag: u8,
     capacity: u8,
@@ -33,7 +35,8 @@ fn open_checked(
 {
     let mut ctx = aes::blank();
     aes::fill(key, &mut ctx);
-    open_text(key, &ctx, tag, capacity, nonce, header, text, out)
+    let hash = data_hash(key, &ctx, tag, capacity, header);
+    open_text(key, &ctx, tag, capacity, nonce, hash, text, out)
 }
 
 // The checks after the first, in their order, for a set that is known.

@@ -2,6 +2,7 @@
 use crate::sets::Parameters;
 use crate::sets::Set;
 use crate::sets::lookup;
+use mode_steps::data_hash;
 use sealing::seal_message;
 use sealing::tag_bytes;
 ghost use mathlib.Core.Path.{_≡_};
@@ -17,7 +18,8 @@ ghost use Rattle.cba.specs.Lookup.{lookupOf};
 ghost use Rattle.mode.specs.Seal.{ENC};
 ghost use Rattle.cba.specs.Refusals.{SealCall};
 
-// The sealing of an input that no check refuses: the key schedule, once, and ENC.
+// The sealing of an input that no check refuses: the key schedule, once, the walk over
+// the data, and ENC.
 fn seal_accepted(
     tag: u8,
     capacity: u8,
@@ -34,7 +36,8 @@ fn seal_accepted(
 {
     let mut ctx = aes::blank();
     aes::fill(key, &mut ctx);
-    seal_message(key, &ctx, tag, capacity, nonce, header, text, out);
+    let hash = data_hash(key, &ctx, tag, capacity, header);
+    seal_message(key, &ctx, tag, capacity, nonce, hash, text, out);
 }
 
 // The checks after the first, in their order, for a set that is known.

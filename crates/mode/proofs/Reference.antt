@@ -14,8 +14,8 @@ use Rattle.mode.specs.Offsets.{doubled, times, F, start, offset, pad, le
 use Rattle.mode.specs.Data.{blockSum, withRest, dataSum, L, dataHash, tagOfData}
 use Rattle.mode.specs.Forms.{sealForm, openForm}
 use Rattle.mode.specs.Seal
-use Rattle.mode.specs.Seal.{checksum, cipherBlocks, R, masked, shortTag, joinedBlock, joinedLast, joinedEnd, joinedTail, lastBlock, lastOffset, separateTag, separateTail, sealAs, ENC}
-use Rattle.mode.specs.Open.{Opened, verified, check, after, plainBlocks, fromBlocks, joinedPlain, joinedRest, joinedAttempt, separateAttempt, attempt, DEC}
+use Rattle.mode.specs.Seal.{checksum, cipherBlocks, R, masked, shortTag, joinedBlock, joinedLast, joinedEnd, joinedTail, lastBlock, lastOffset, separateTag, separateTail, sealAs, sealWith, ENC}
+use Rattle.mode.specs.Open.{Opened, verified, check, after, plainBlocks, fromBlocks, joinedPlain, joinedRest, joinedAttempt, separateAttempt, attempt, openWith, DEC}
 use Rattle.mode.specs.Open.Opened.{opened, refused}
 
 -- E moves byte 5 i + 3 to place i and maps it by 7 x + 13 i + 1; D is its inverse, 183 being 1/7 and 13 being 1/5
@@ -55,5 +55,5 @@ rows =
     ∷ []
 
 test : T (all rows)
-unfolding E D is vector all rows xors number digits table doubled Offsets.two Offsets.three Offsets.four Offsets.five Offsets.six times F start offset pad leading lastBytes butLast blockSum withRest dataSum L dataHash tagOfData sealForm openForm checksum cipherBlocks R masked shortTag Seal.T joinedBlock joinedLast joinedEnd joinedTail lastBlock lastOffset separateTag separateTail sealAs ENC verified check after plainBlocks fromBlocks joinedPlain joinedRest joinedAttempt separateAttempt attempt DEC
+unfolding E D is vector all rows xors number digits table doubled Offsets.two Offsets.three Offsets.four Offsets.five Offsets.six times F start offset pad leading lastBytes butLast blockSum withRest dataSum L dataHash tagOfData sealForm openForm checksum cipherBlocks R masked shortTag Seal.T joinedBlock joinedLast joinedEnd joinedTail lastBlock lastOffset separateTag separateTail sealAs sealWith verified check after plainBlocks fromBlocks joinedPlain joinedRest joinedAttempt separateAttempt attempt openWith
 test = tt

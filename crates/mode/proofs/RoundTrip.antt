@@ -1,4 +1,4 @@
--- Opening undoes sealing, and sealing is the only way in: over any block cipher with its inverse, any τ and b that fit.
+-- Opening undoes sealing, and sealing is the only way in: over any block cipher with its inverse, any τ and b that fit, any T_A.
 -- Assumes nothing.
 use mathlib.Core.Path.{_≡_, refl, sym, ap, ap₂, subst, _∙_}
 use mathlib.Core.Bool.{Bool, true, false, cond}
@@ -19,13 +19,14 @@ use Rattle.mode.specs.Sets.{Fits, ell, tagBytes}
 use Rattle.mode.specs.Forms.{Form, fullBlocks, lastLength, sealForm, openForm}
 use Rattle.mode.specs.Forms.Form.{short, joined, separate}
 use Rattle.mode.specs.Offsets.{F, offset, pad, lastBytes, butLast}
-use Rattle.mode.specs.Seal.{checksum, cipherBlocks, R, Δ₀, masked, shortTag, T, joinedBlock, joinedLast, joinedEnd, joinedTail, lastBlock, separateTag, separateTail, sealAs, ENC}
-use Rattle.mode.specs.Open.{isFalse, messageOf, Attempt, verified, check, after, joinedPlain, joinedRest, joinedAttempt, separateAttempt, fromBlocks, attempt, DEC}
+use Rattle.mode.specs.Data.{tagOfData}
+use Rattle.mode.specs.Seal.{checksum, cipherBlocks, R, Δ₀, masked, shortTag, T, joinedBlock, joinedLast, joinedEnd, joinedTail, lastBlock, separateTag, separateTail, sealAs, sealWith}
+use Rattle.mode.specs.Open.{isFalse, messageOf, Attempt, verified, check, after, joinedPlain, joinedRest, joinedAttempt, separateAttempt, fromBlocks, attempt, openWith}
 use Rattle.mode.specs.Open.Opened.{opened, refused}
 use Rattle.mode.specs.RoundTrip.{BlockCipher, RoundTrip}
 use Rattle.mode.proofs.FormLaws.{by-form, seal-short, seal-joined, seal-long, seal-single, same-form}
 use Rattle.mode.proofs.OffsetLaws.{xors-octets, append-octets, take-octets, F-octets, offset-octets, pad-octets, F-six}
-use Rattle.mode.proofs.SealLaws.{leading-octets, lastBytes-octets, whitened, R-octets, Δ₀-octets, masked-octets, shortTag-octets, T-octets, lastOffset-octets, lastBlock-octets, tag-octets, ENC-octets}
+use Rattle.mode.proofs.SealLaws.{leading-octets, lastBytes-octets, whitened, R-octets, Δ₀-octets, masked-octets, shortTag-octets, T-octets, lastOffset-octets, lastBlock-octets, tag-octets, tagOfData-octets, sealWith-octets}
 use Rattle.mode.proofs.Undoing.{Undoes, undoes-same, tags-same, same-tags, xors-undo, butLast-at, lastBytes-at, butLast-lastBytes, butLast-octets, behind, tail-undoes, first-undoes, tagged-undoes}
 
 -- a string under the first bytes of a block, twice
@@ -70,7 +71,7 @@ long-count k r t g h i = omega arith
 single-count : (k r t : ℕ) → k < 1 → 1 ≤ r → r + t ≤ 16 → (16 * k + r + t - 1) / 16 - 1 ≡ k
 single-count k r t g h i = omega arith
 
-module _ (E D : List ℕ → List ℕ) (v : BlockCipher E D) (τ b : ℕ) (f : Fits τ b) (N A : List ℕ) (oN : Octets 12 N) (oA : Bytes A) where
+module _ (E D : List ℕ → List ℕ) (v : BlockCipher E D) (τ b : ℕ) (f : Fits τ b) (N Ta : List ℕ) (oN : Octets 12 N) (oTa : Octets (tagBytes τ) Ta) where
   abbrev t : ℕ
   t = tagBytes τ
 
@@ -89,29 +90,29 @@ module _ (E D : List ℕ → List ℕ) (v : BlockCipher E D) (τ b : ℕ) (f : F
   -- ---- the last block of the separate form, and the short form
 
   masked-sized : {n : ℕ} (x : List ℕ) → n ≤ 16 → Octets n x → Octets n (masked E τ b N x)
-  masked-sized x h o = masked-octets E (v .E-block) τ b τ-byte b-byte t-most N A oN oA o h
+  masked-sized x h o = masked-octets E (v .E-block) τ b τ-byte b-byte t-most N Ta oN oTa o h
 
   masked-twice : {n : ℕ} (x : List ℕ) → n ≤ 16 → Octets n x → masked E τ b N (masked E τ b N x) ≡ x
   unfolding masked
   masked-twice {n} x h o =
-      let r = R-octets E (v .E-block) τ b τ-byte b-byte t-most N A oN oA in
+      let r = R-octets E (v .E-block) τ b τ-byte b-byte t-most N Ta oN oTa in
       let w = lastBytes-octets n r h in
       let e : length x ≡ n = o .size in
       ap (λ (j : ℕ). xors (masked E τ b N x) (lastBytes j (R E τ b N))) (masked-sized x h o .size)
       ∙ ap (λ (j : ℕ). xors (xors x (lastBytes j (R E τ b N))) (lastBytes n (R E τ b N))) e
       ∙ xors-undo x (lastBytes n (R E τ b N)) (omega (arith, w .size, e))
 
-  short-undoes : (n : ℕ) → n ≤ l → Undoes n t (sealAs E τ b short N A) (attempt E D τ b short N A)
+  short-undoes : (n : ℕ) → n ≤ l → Undoes n t (sealAs E τ b short N Ta) (attempt E D τ b short N Ta)
   unfolding sealAs attempt
   short-undoes n h =
       undoes-same (λ M o. refl)
-      (λ C o. ap (λ (c : List ℕ). record { message = masked E τ b N (butLast t C); tag = lastBytes t C; tag′ = shortTag E τ b N A c }) (sym (masked-twice (butLast t C) (omega arith) (butLast-octets t n o))))
-      (tagged-undoes (masked E τ b N) (λ M. shortTag E τ b N A (masked E τ b N M)) n t (λ x o. masked-sized x (omega arith) o) (λ x o. masked-twice x (omega arith) o)
-      (λ x o. shortTag-octets E (v .E-block) τ b τ-byte b-byte t-most N A oN oA (masked E τ b N x) (masked-sized x (omega arith) o .small)))
+      (λ C o. ap (λ (c : List ℕ). record { message = masked E τ b N (butLast t C); tag = lastBytes t C; tag′ = shortTag E τ b N Ta c }) (sym (masked-twice (butLast t C) (omega arith) (butLast-octets t n o))))
+      (tagged-undoes (masked E τ b N) (λ M. shortTag E τ b N Ta (masked E τ b N M)) n t (λ x o. masked-sized x (omega arith) o) (λ x o. masked-twice x (omega arith) o)
+      (λ x o. shortTag-octets E (v .E-block) τ b τ-byte b-byte t-most N Ta oN oTa (masked E τ b N x) (masked-sized x (omega arith) o .small)))
 
   module _ (Tag Δ S : List ℕ) (oT : Octets t Tag) (oΔ : Octets 16 Δ) (oS : Octets 16 S) where
     lastBlock-sized : {n : ℕ} (x : List ℕ) → n ≤ 16 → Octets n x → Octets n (lastBlock E Δ Tag x)
-    lastBlock-sized x h o = lastBlock-octets E (v .E-block) τ b τ-byte b-byte t-most N A oN oA oΔ oT o h
+    lastBlock-sized x h o = lastBlock-octets E (v .E-block) τ b τ-byte b-byte t-most N Ta oN oTa oΔ oT o h
 
     lastBlock-twice : {n : ℕ} (x : List ℕ) → n ≤ 16 → Octets n x → lastBlock E Δ Tag (lastBlock E Δ Tag x) ≡ x
     unfolding lastBlock
@@ -122,8 +123,8 @@ module _ (E D : List ℕ → List ℕ) (v : BlockCipher E D) (τ b : ℕ) (f : F
     separate-undoes n h =
         tagged-undoes (lastBlock E Δ Tag) (separateTag E τ Δ Tag S) n t (λ x o. lastBlock-sized x h o) (λ x o. lastBlock-twice x h o)
         (λ x o.
-        tag-octets E (v .E-block) τ b τ-byte b-byte t-most N A oN oA (xors-octets 16 oS (pad-octets x (o .small))) (leading-octets 16 oT t-most)
-        (lastOffset-octets E (v .E-block) τ b τ-byte b-byte t-most N A oN oA (length x) oΔ))
+        tag-octets E (v .E-block) τ b τ-byte b-byte t-most N Ta oN oTa (xors-octets 16 oS (pad-octets x (o .small))) (leading-octets 16 oT t-most)
+        (lastOffset-octets E (v .E-block) τ b τ-byte b-byte t-most N Ta oN oTa (length x) oΔ))
 
     -- ---- the last two blocks of the joined form
 
@@ -270,21 +271,21 @@ module _ (E D : List ℕ → List ℕ) (v : BlockCipher E D) (τ b : ℕ) (f : F
   Δ = Δ₀ E τ b N
 
   oΔ : Octets 16 Δ
-  oΔ = Δ₀-octets E (v .E-block) τ b τ-byte b-byte t-most N A oN oA
+  oΔ = Δ₀-octets E (v .E-block) τ b τ-byte b-byte t-most N Ta oN oTa
 
-  tag-sized : (C₀ : List ℕ) → Octets l C₀ → Octets t (T E τ b A C₀)
-  tag-sized C₀ o = T-octets E (v .E-block) τ b τ-byte b-byte t-most N A oN oA o (omega arith)
+  tag-sized : (C₀ : List ℕ) → Octets l C₀ → Octets t (T τ Ta C₀)
+  tag-sized C₀ o = T-octets E (v .E-block) τ b τ-byte b-byte t-most N Ta oN oTa o (omega arith)
 
   -- C_0, the full blocks and an end
   form-undoes : (end : List ℕ → List ℕ → List ℕ → List ℕ → List ℕ) (try : List ℕ → List ℕ → List ℕ → List ℕ → Attempt) (n k : ℕ) →
       ((Tag Δ S : List ℕ) → Octets t Tag → Octets 16 Δ → Octets 16 S → Undoes n t (end Tag Δ S) (try Tag Δ S)) →
       Undoes (l + (16 * k + n)) t
-      (λ M. let C₀ = masked E τ b N (take l M) in C₀ ++ (cipherBlocks E Δ (drop l M) k ++ end (T E τ b A C₀) (offset Δ k) (checksum (drop l M) k) (drop (16 * k) (drop l M))))
-      (λ C. after (masked E τ b N (take l C)) (fromBlocks E D (try (T E τ b A (take l C))) Δ (drop l C) k))
+      (λ M. let C₀ = masked E τ b N (take l M) in C₀ ++ (cipherBlocks E Δ (drop l M) k ++ end (T τ Ta C₀) (offset Δ k) (checksum (drop l M) k) (drop (16 * k) (drop l M))))
+      (λ C. after (masked E τ b N (take l C)) (fromBlocks E D (try (T τ Ta (take l C))) Δ (drop l C) k))
   form-undoes end try n k u =
-      first-undoes (masked E τ b N) (λ C₀ M. cipherBlocks E Δ M k ++ end (T E τ b A C₀) (offset Δ k) (checksum M k) (drop (16 * k) M))
-      (λ C₀ C. fromBlocks E D (try (T E τ b A C₀)) Δ C k) l (16 * k + n) t (λ x o. masked-sized x (omega arith) o) (λ x o. masked-twice x (omega arith) o)
-      (λ C₀ o. tail-undoes E D v (end (T E τ b A C₀)) (try (T E τ b A C₀)) Δ oΔ n t k (λ S oS. u (T E τ b A C₀) (offset Δ k) S (tag-sized C₀ o) (offset-octets k oΔ) oS))
+      first-undoes (masked E τ b N) (λ C₀ M. cipherBlocks E Δ M k ++ end (T τ Ta C₀) (offset Δ k) (checksum M k) (drop (16 * k) M))
+      (λ C₀ C. fromBlocks E D (try (T τ Ta C₀)) Δ C k) l (16 * k + n) t (λ x o. masked-sized x (omega arith) o) (λ x o. masked-twice x (omega arith) o)
+      (λ C₀ o. tail-undoes E D v (end (T τ Ta C₀)) (try (T τ Ta C₀)) Δ oΔ n t k (λ S oS. u (T τ Ta C₀) (offset Δ k) S (tag-sized C₀ o) (offset-octets k oΔ) oS))
 
   -- the tails as the paper writes them
   joined-tail-is : (Tag M : List ℕ) (k r : ℕ) → length M ≡ 16 * k + (16 + r) → r ≤ 16 → let rest = drop (16 * k) M in
@@ -295,32 +296,32 @@ module _ (E D : List ℕ → List ℕ) (v : BlockCipher E D) (τ b : ℕ) (f : F
       take-all 16 (drop (16 * suc k) M) (simp length-drop (omega arith)) ∙ ap (λ (n : ℕ). drop n M) (mul-suc 16 k) ∙ sym (drop-drop 16 (16 * k) M) in
       ap (λ (x : List ℕ). cipherBlocks E Δ M k ++ joinedEnd E (F 2 2 (offset Δ k)) (xors (checksum M k) (block 16 M k)) (block 16 M k) (x ++ Tag)) w
 
-  joined-form : (k r : ℕ) → 1 ≤ r → r + t ≤ 16 → Undoes (l + (16 * k + (16 + r))) t (sealAs E τ b joined N A) (attempt E D τ b joined N A)
+  joined-form : (k r : ℕ) → 1 ≤ r → r + t ≤ 16 → Undoes (l + (16 * k + (16 + r))) t (sealAs E τ b joined N Ta) (attempt E D τ b joined N Ta)
   unfolding sealAs attempt
   joined-form k r g h =
       undoes-same
       (λ M o.
       let C₀ = masked E τ b N (take l M) in
-      ap (λ (j : ℕ). C₀ ++ joinedTail E Δ (T E τ b A C₀) (drop l M) j) {x = fullBlocks l (length M) - 1} {y = k} (omega (arith, o .size))
-      ∙ ap (λ (x : List ℕ). C₀ ++ x) (joined-tail-is (T E τ b A C₀) (drop l M) k r (simp length-drop (omega (arith, o .size))) (omega arith)))
+      ap (λ (j : ℕ). C₀ ++ joinedTail E Δ (T τ Ta C₀) (drop l M) j) {x = fullBlocks l (length M) - 1} {y = k} (omega (arith, o .size))
+      ∙ ap (λ (x : List ℕ). C₀ ++ x) (joined-tail-is (T τ Ta C₀) (drop l M) k r (simp length-drop (omega (arith, o .size))) (omega arith)))
       (λ C o.
-      ap (λ (j : ℕ). after (masked E τ b N (take l C)) (fromBlocks E D (joinedAttempt E D τ (T E τ b A (take l C))) Δ (drop l C) j)) {x = fullBlocks l (length C) - 1} {y = k} (omega (arith, o .size)))
+      ap (λ (j : ℕ). after (masked E τ b N (take l C)) (fromBlocks E D (joinedAttempt E D τ (T τ Ta (take l C))) Δ (drop l C) j)) {x = fullBlocks l (length C) - 1} {y = k} (omega (arith, o .size)))
       (form-undoes (λ Tag δ S m. joinedEnd E (F 2 2 δ) (xors S (take 16 m)) (take 16 m) (drop 16 m ++ Tag)) (joinedAttempt E D τ) (16 + r) k
       (λ Tag δ S oT oδ oS. joined-undoes Tag δ S oT oδ oS r h))
 
   -- the last block is the one before the tag, or the only one
-  separate-form : (k r : ℕ) → 1 ≤ r → r ≤ 16 → (16 * k + r + t - 1) / 16 - 1 ≡ k → Undoes (l + (16 * k + r)) t (sealAs E τ b separate N A) (attempt E D τ b separate N A)
+  separate-form : (k r : ℕ) → 1 ≤ r → r ≤ 16 → (16 * k + r + t - 1) / 16 - 1 ≡ k → Undoes (l + (16 * k + r)) t (sealAs E τ b separate N Ta) (attempt E D τ b separate N Ta)
   unfolding sealAs attempt separateTail
   separate-form k r g h e =
       undoes-same
       (λ M o.
       let C₀ = masked E τ b N (take l M) in
-      ap (λ (j : ℕ). C₀ ++ separateTail E τ Δ (T E τ b A C₀) (drop l M) j) {x = fullBlocks l (length M)} {y = k} (omega (arith, o .size))
-      ∙ ap (λ (x : List ℕ). C₀ ++ (cipherBlocks E Δ (drop l M) k ++ (lastBlock E (offset Δ k) (T E τ b A C₀) x ++ separateTag E τ (offset Δ k) (T E τ b A C₀) (checksum (drop l M) k) x)))
+      ap (λ (j : ℕ). C₀ ++ separateTail E τ Δ (T τ Ta C₀) (drop l M) j) {x = fullBlocks l (length M)} {y = k} (omega (arith, o .size))
+      ∙ ap (λ (x : List ℕ). C₀ ++ (cipherBlocks E Δ (drop l M) k ++ (lastBlock E (offset Δ k) (T τ Ta C₀) x ++ separateTag E τ (offset Δ k) (T τ Ta C₀) (checksum (drop l M) k) x)))
       (take-all 16 (drop (16 * k) (drop l M)) (simp length-drop (omega (arith, o .size)))))
       (λ C o.
       let w : length C - l - 1 ≡ 16 * k + r + t - 1 = omega (arith, o .size) in
-      ap (λ (j : ℕ). after (masked E τ b N (take l C)) (fromBlocks E D (separateAttempt E D τ (T E τ b A (take l C))) Δ (drop l C) j)) (ap (λ (j : ℕ). j / 16 - 1) w ∙ e))
+      ap (λ (j : ℕ). after (masked E τ b N (take l C)) (fromBlocks E D (separateAttempt E D τ (T τ Ta (take l C))) Δ (drop l C) j)) (ap (λ (j : ℕ). j / 16 - 1) w ∙ e))
       (form-undoes (λ Tag δ S m. lastBlock E δ Tag m ++ separateTag E τ δ Tag S m) (separateAttempt E D τ) r k
       (λ Tag δ S oT oδ oS. separate-undoes Tag δ S oT oδ oS r h))
 
@@ -328,7 +329,7 @@ module _ (E D : List ℕ → List ℕ) (v : BlockCipher E D) (τ b : ℕ) (f : F
   form n = sealForm l t n
 
   -- every length
-  seal-undoes : (n : ℕ) → Undoes n t (sealAs E τ b (form n) N A) (attempt E D τ b (form n) N A)
+  seal-undoes : (n : ℕ) → Undoes n t (sealAs E τ b (form n) N Ta) (attempt E D τ b (form n) N Ta)
   seal-undoes n =
       by-form l t n
       (λ k. in-form (seal-short l t n k) refl (short-undoes n k))
@@ -336,46 +337,51 @@ module _ (E D : List ℕ → List ℕ) (v : BlockCipher E D) (τ b : ℕ) (f : F
       (λ k p. in-form (seal-long l t n k p) (omega arith) (separate-form (fullBlocks l n) (lastLength l n) (omega arith) (omega arith) (long-count (fullBlocks l n) (lastLength l n) t (omega arith) t-most p)))
       (λ k p q. in-form (seal-single l t n k p q) (omega arith) (separate-form (fullBlocks l n) (lastLength l n) (omega arith) (omega arith) (single-count (fullBlocks l n) (lastLength l n) t q (omega arith) p)))
     where
-      in-form : {g : Form} {m : ℕ} → form n ≡ g → m ≡ n → Undoes m t (sealAs E τ b g N A) (attempt E D τ b g N A) → Undoes n t (sealAs E τ b (form n) N A) (attempt E D τ b (form n) N A)
-      in-form {g} {m} e d u = subst (λ (h : Form). Undoes n t (sealAs E τ b h N A) (attempt E D τ b h N A)) (sym e) (subst (λ (j : ℕ). Undoes j t (sealAs E τ b g N A) (attempt E D τ b g N A)) d u)
+      in-form : {g : Form} {m : ℕ} → form n ≡ g → m ≡ n → Undoes m t (sealAs E τ b g N Ta) (attempt E D τ b g N Ta) → Undoes n t (sealAs E τ b (form n) N Ta) (attempt E D τ b (form n) N Ta)
+      in-form {g} {m} e d u = subst (λ (h : Form). Undoes n t (sealAs E τ b h N Ta) (attempt E D τ b h N Ta)) (sym e) (subst (λ (j : ℕ). Undoes j t (sealAs E τ b g N Ta) (attempt E D τ b g N Ta)) d u)
 
-  -- DEC of a string of n + t bytes
-  dec-is : (n : ℕ) (C : List ℕ) → length C ≡ n + t → DEC E D τ b N A C ≡ check (attempt E D τ b (form n) N A C)
-  unfolding DEC
+  -- opening a string of n + t bytes
+  dec-is : (n : ℕ) (C : List ℕ) → length C ≡ n + t → openWith E D τ b N Ta C ≡ check (attempt E D τ b (form n) N Ta C)
+  unfolding openWith
   dec-is n C e =
       rw (le-ltb (length C) t (omega (arith, e)))
-      (ap (λ (g : Form). check (attempt E D τ b g N A C)) (ap (openForm l t) e ∙ same-form l t n t-most))
+      (ap (λ (g : Form). check (attempt E D τ b g N Ta C)) (ap (openForm l t) e ∙ same-form l t n t-most))
 
-  enc-sized : (M : List ℕ) → Bytes M → Octets (length M + t) (ENC E τ b N A M)
-  enc-sized M h = ENC-octets E (v .E-block) τ b τ-byte b-byte t-most N A oN oA M h
+  enc-sized : (M : List ℕ) → Bytes M → Octets (length M + t) (sealWith E τ b N Ta M)
+  enc-sized M h = sealWith-octets E (v .E-block) τ b τ-byte b-byte t-most N Ta oN oTa M h
 
-  dec-enc : (M : List ℕ) → Bytes M → DEC E D τ b N A (ENC E τ b N A M) ≡ opened M
-  unfolding ENC
+  dec-enc : (M : List ℕ) → Bytes M → openWith E D τ b N Ta (sealWith E τ b N Ta M) ≡ opened M
+  unfolding sealWith
   dec-enc M h =
       let o : Octets (length M) M = record { size = refl; small = h } in
       let u = seal-undoes (length M) in
-      dec-is (length M) (ENC E τ b N A M) (enc-sized M h .size) ∙ check-opens _ (u .verified-back M o) ∙ ap opened (u .message-back M o)
+      dec-is (length M) (sealWith E τ b N Ta M) (enc-sized M h .size) ∙ check-opens _ (u .verified-back M o) ∙ ap opened (u .message-back M o)
 
   -- a string that opens has room for its tag
-  dec-long : (C M : List ℕ) → DEC E D τ b N A C ≡ opened M → t ≤ length C
-  unfolding DEC
+  dec-long : (C M : List ℕ) → openWith E D τ b N Ta C ≡ opened M → t ≤ length C
+  unfolding openWith
   dec-long C M e = go (ltb (length C) t) refl e
     where
-      go : (x : Bool) → ltb (length C) t ≡ x → cond x refused (check (attempt E D τ b (openForm l t (length C)) N A C)) ≡ opened M → t ≤ length C
+      go : (x : Bool) → ltb (length C) t ≡ x → cond x refused (check (attempt E D τ b (openForm l t (length C)) N Ta C)) ≡ opened M → t ≤ length C
       go true h e = absurd (refused-opens e)
       go false h e = ltb-false (length C) t h
 
-  enc-dec : (C M : List ℕ) → Bytes C → DEC E D τ b N A C ≡ opened M → Bytes M × (ENC E τ b N A M ≡ C)
-  unfolding ENC
+  enc-dec : (C M : List ℕ) → Bytes C → openWith E D τ b N Ta C ≡ opened M → Bytes M × (sealWith E τ b N Ta M ≡ C)
+  unfolding sealWith
   enc-dec C M h e =
       let n = length C - t in
       let long = dec-long C M e in
       let o : Octets (n + t) C = record { size = omega arith; small = h } in
-      let a = attempt E D τ b (form n) N A C in
+      let a = attempt E D τ b (form n) N Ta C in
       let d = opens-check a M (sym (dec-is n C (o .size)) ∙ e) in
       let u = seal-undoes n in
       let m : Octets n M = subst (Octets n) (d .1) (u .message-octets C o) in
-      (m .small, ap (λ (j : ℕ). sealAs E τ b (form j) N A M) (m .size) ∙ ap (sealAs E τ b (form n) N A) (sym (d .1)) ∙ u .sealing-back C o (d .0))
+      (m .small, ap (λ (j : ℕ). sealAs E τ b (form j) N Ta M) (m .size) ∙ ap (sealAs E τ b (form n) N Ta) (sym (d .1)) ∙ u .sealing-back C o (d .0))
 
-  pub round-trip : RoundTrip E D τ b N A
+  pub round-trip : RoundTrip E D τ b N Ta
   round-trip = record { longer = enc-sized; opens = dec-enc; only = enc-dec }
+
+-- with the T_A of associated data, which is what ENC and DEC have
+pub data-trip : (E D : List ℕ → List ℕ) → BlockCipher E D → (τ b : ℕ) → Fits τ b → (N A : List ℕ) → Octets 12 N → Bytes A → RoundTrip E D τ b N (tagOfData E τ b A)
+data-trip E D v τ b f N A oN oA =
+    round-trip E D v τ b f N (tagOfData E τ b A) oN (tagOfData-octets E (v .E-block) τ b (omega (arith, f .0)) (omega (arith, f .1)) (omega (arith, f .0)) A oA)

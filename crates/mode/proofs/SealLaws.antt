@@ -15,7 +15,7 @@ use Rattle.octets.proofs.Blocks.{length-block}
 use Rattle.mode.specs.Sets.{tagBytes, ell}
 use Rattle.mode.specs.Offsets.{F, leading, lastBytes}
 use Rattle.mode.specs.Data.{blockSum, withRest, dataSum, dataHash, tagOfData}
-use Rattle.mode.specs.Seal.{checksum, cipherBlocks, R, Δ₀, masked, shortTag, T, joinedBlock, joinedLast, joinedEnd, joinedTail, lastBlock, lastOffset, separateTag, separateTail, sealAs, ENC}
+use Rattle.mode.specs.Seal.{checksum, cipherBlocks, R, Δ₀, masked, shortTag, T, joinedBlock, joinedLast, joinedEnd, joinedTail, lastBlock, lastOffset, separateTag, separateTail, sealAs, sealWith}
 use Rattle.mode.specs.Forms.{Form, fullBlocks, lastLength}
 use Rattle.mode.specs.Forms.Form.{short, joined, separate}
 use Rattle.mode.proofs.FormLaws.{by-form, seal-short, seal-joined, seal-long, seal-single}
@@ -88,7 +88,7 @@ module _ (E : List ℕ → List ℕ) (E-octets : (x : List ℕ) → Octets 16 x 
     unfolding tagOfData dataHash
     tagOfData-octets A h = take-octets (tagBytes τ) 16 (dataSum-octets _ _ A (zeros-octets 16) (start-octets _ 0) h) t-most
 
-    module _ (N A : List ℕ) (n : Octets 12 N) (a : Bytes A) where
+    module _ (N Ta : List ℕ) (n : Octets 12 N) (a : Octets (tagBytes τ) Ta) where
       pub R-octets : Octets 16 (R E τ b N)
       unfolding R
       R-octets = E-octets _ (record { size = omega (arith, n .size); small = (omega arith, (omega arith, (omega arith, (omega arith, n .small)))) })
@@ -105,13 +105,13 @@ module _ (E : List ℕ → List ℕ) (E-octets : (x : List ℕ) → Octets 16 x 
       pub tag-octets : {x y Δ : List ℕ} → Octets 16 x → Octets 16 y → Octets 16 Δ → Octets (tagBytes τ) (take (tagBytes τ) (E (xors (xors x y) Δ)))
       tag-octets p q r = take-octets (tagBytes τ) 16 (whitened (xors-octets 16 p q) r) t-most
 
-      pub shortTag-octets : (C : List ℕ) → Bytes C → Octets (tagBytes τ) (shortTag E τ b N A C)
+      pub shortTag-octets : (C : List ℕ) → Bytes C → Octets (tagBytes τ) (shortTag E τ b N Ta C)
       unfolding shortTag
-      shortTag-octets C c = tag-octets (leading-octets 16 (tagOfData-octets A a) t-most) (pad-octets C c) (F-octets 3 3 Δ₀-octets)
+      shortTag-octets C c = tag-octets (leading-octets 16 a t-most) (pad-octets C c) (F-octets 3 3 Δ₀-octets)
 
-      pub T-octets : {k : ℕ} {C : List ℕ} → Octets k C → k ≤ tagBytes τ → Octets (tagBytes τ) (T E τ b A C)
+      pub T-octets : {k : ℕ} {C : List ℕ} → Octets k C → k ≤ tagBytes τ → Octets (tagBytes τ) (T τ Ta C)
       unfolding T
-      T-octets o h = xors-octets (tagBytes τ) (tagOfData-octets A a) (leading-octets (tagBytes τ) o h)
+      T-octets o h = xors-octets (tagBytes τ) a (leading-octets (tagBytes τ) o h)
 
       -- a last block of r bytes
       block-rest : (M : List ℕ) (i r : ℕ) → Bytes M → length M ≡ 16 * i + r → r ≤ 16 → Octets r (block 16 M i)
@@ -166,7 +166,7 @@ module _ (E : List ℕ → List ℕ) (E-octets : (x : List ℕ) → Octets 16 x 
         l : ℕ
         l = ell τ b / 8
 
-        sealAs-short : length M ≤ l → Octets (length M + tagBytes τ) (sealAs E τ b short N A M)
+        sealAs-short : length M ≤ l → Octets (length M + tagBytes τ) (sealAs E τ b short N Ta M)
         unfolding sealAs l
         sealAs-short h =
             let C₀ = masked-octets {k = length M} {M = M} (record { size = refl; small = c }) (omega arith) in
@@ -182,31 +182,31 @@ module _ (E : List ℕ → List ℕ) (E-octets : (x : List ℕ) → Octets 16 x 
             let p = append-octets (C₀-octets h) o in
             record { size = p .size ∙ omega (arith, length-drop l M); small = p .small }
 
-        T₀-octets : l ≤ length M → Octets (tagBytes τ) (T E τ b A (masked E τ b N (take l M)))
+        T₀-octets : l ≤ length M → Octets (tagBytes τ) (T τ Ta (masked E τ b N (take l M)))
         unfolding l
         T₀-octets h = T-octets (C₀-octets h) (omega arith)
 
-        sealAs-joined : l < length M → lastLength l (length M) + tagBytes τ ≤ 16 → 1 ≤ fullBlocks l (length M) → Octets (length M + tagBytes τ) (sealAs E τ b joined N A M)
+        sealAs-joined : l < length M → lastLength l (length M) + tagBytes τ ≤ 16 → 1 ≤ fullBlocks l (length M) → Octets (length M + tagBytes τ) (sealAs E τ b joined N Ta M)
         unfolding sealAs l
         sealAs-joined k p q =
             with-C₀ (omega arith)
             (joinedTail-octets _ (drop l M) (fullBlocks l (length M) - 1) (lastLength l (length M)) (T₀-octets (omega arith)) (bytes-drop l M c) (omega (arith, length-drop l M)) p)
 
-        sealAs-separate : l < length M → Octets (length M + tagBytes τ) (sealAs E τ b separate N A M)
+        sealAs-separate : l < length M → Octets (length M + tagBytes τ) (sealAs E τ b separate N Ta M)
         unfolding sealAs l
         sealAs-separate k =
             with-C₀ (omega arith)
             (separateTail-octets _ (drop l M) (fullBlocks l (length M)) (lastLength l (length M)) (T₀-octets (omega arith)) (bytes-drop l M c) (omega (arith, length-drop l M)) (omega arith))
 
         -- a sealing is a string of t bytes more than the message
-        pub ENC-octets : Octets (length M + tagBytes τ) (ENC E τ b N A M)
-        unfolding ENC l
-        ENC-octets =
+        pub sealWith-octets : Octets (length M + tagBytes τ) (sealWith E τ b N Ta M)
+        unfolding sealWith l
+        sealWith-octets =
             by-form l (tagBytes τ) (length M)
             (λ k. in-form (seal-short l (tagBytes τ) (length M) k) (sealAs-short k))
             (λ k p q. in-form (seal-joined l (tagBytes τ) (length M) k p q) (sealAs-joined k p q))
             (λ k p. in-form (seal-long l (tagBytes τ) (length M) k p) (sealAs-separate k))
             (λ k p q. in-form (seal-single l (tagBytes τ) (length M) k p q) (sealAs-separate k))
           where
-            in-form : {f g : Form} → f ≡ g → Octets (length M + tagBytes τ) (sealAs E τ b g N A M) → Octets (length M + tagBytes τ) (sealAs E τ b f N A M)
-            in-form e o = subst (λ (f : Form). Octets (length M + tagBytes τ) (sealAs E τ b f N A M)) (sym e) o
+            in-form : {f g : Form} → f ≡ g → Octets (length M + tagBytes τ) (sealAs E τ b g N Ta M) → Octets (length M + tagBytes τ) (sealAs E τ b f N Ta M)
+            in-form e o = subst (λ (f : Form). Octets (length M + tagBytes τ) (sealAs E τ b f N Ta M)) (sym e) o

@@ -11,6 +11,7 @@ use Rattle.octets.specs.Xor.{xors}
 use Rattle.octets.specs.Blocks.{block}
 use Rattle.mode.specs.Sets.{tagBytes, ell}
 use Rattle.mode.specs.Offsets.{F, offset, pad, lastBytes, butLast}
+use Rattle.mode.specs.Data.{tagOfData}
 use Rattle.mode.specs.Forms.{Form, fullBlocks, openForm}
 use Rattle.mode.specs.Forms.Form.{short, joined, separate}
 use Rattle.mode.specs.Seal.{checksum, Δ₀, masked, shortTag, T, lastBlock, separateTag}
@@ -90,18 +91,22 @@ module _ (E D : List ℕ → List ℕ) where
   module _ (τ b : ℕ) where
     -- the attempt in each form; the number of blocks before the end is m − 2, or 0 where m = 1
     unfoldable pub attempt : Form → List ℕ → List ℕ → List ℕ → Attempt
-    attempt short N A C =
+    attempt short N Ta C =
         let C₀ = butLast (tagBytes τ) C in
-        record { message = masked E τ b N C₀; tag = lastBytes (tagBytes τ) C; tag′ = shortTag E τ b N A C₀ }
-    attempt joined N A C =
+        record { message = masked E τ b N C₀; tag = lastBytes (tagBytes τ) C; tag′ = shortTag E τ b N Ta C₀ }
+    attempt joined N Ta C =
         let l = ell τ b / 8 in
         let C₀ = take l C in
-        after (masked E τ b N C₀) (fromBlocks (joinedAttempt τ (T E τ b A C₀)) (Δ₀ E τ b N) (drop l C) (fullBlocks l (length C) - 1))
-    attempt separate N A C =
+        after (masked E τ b N C₀) (fromBlocks (joinedAttempt τ (T τ Ta C₀)) (Δ₀ E τ b N) (drop l C) (fullBlocks l (length C) - 1))
+    attempt separate N Ta C =
         let l = ell τ b / 8 in
         let C₀ = take l C in
-        after (masked E τ b N C₀) (fromBlocks (separateAttempt τ (T E τ b A C₀)) (Δ₀ E τ b N) (drop l C) (fullBlocks l (length C) - 1))
+        after (masked E τ b N C₀) (fromBlocks (separateAttempt τ (T τ Ta C₀)) (Δ₀ E τ b N) (drop l C) (fullBlocks l (length C) - 1))
 
-    -- DEC(K, N, A, C)
-    unfoldable pub DEC : List ℕ → List ℕ → List ℕ → Opened
-    DEC N A C = cond (ltb (length C) (tagBytes τ)) refused (check (attempt (openForm (ell τ b / 8) (tagBytes τ) (length C)) N A C))
+    -- DEC after its first step
+    unfoldable pub openWith : List ℕ → List ℕ → List ℕ → Opened
+    openWith N Ta C = cond (ltb (length C) (tagBytes τ)) refused (check (attempt (openForm (ell τ b / 8) (tagBytes τ) (length C)) N Ta C))
+
+    -- DEC(K, N, A, C): T_A is H(K, A)
+    abbrev pub DEC : List ℕ → List ℕ → List ℕ → Opened
+    DEC N A C = openWith N (tagOfData E τ b A) C

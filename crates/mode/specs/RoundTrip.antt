@@ -1,5 +1,5 @@
--- What the mode owes its users, over any block cipher: opening undoes sealing, and sealing is the only way to a ciphertext that
--- opens.
+-- What the mode owes its users, over any block cipher and any T_A: opening undoes sealing, and sealing is the only way to a ciphertext
+-- that opens.
 -- Assumes nothing.
 use mathlib.Core.Path.{_≡_}
 use mathlib.Core.List.{List}
@@ -7,8 +7,8 @@ use Prim.Native.Nat.{ℕ, _+_}
 use Rattle.octets.specs.Strings.{Bytes, Octets}
 use lib.ListN.{length}
 use Rattle.mode.specs.Sets.{tagBytes}
-use Rattle.mode.specs.Seal.{ENC}
-use Rattle.mode.specs.Open.{DEC}
+use Rattle.mode.specs.Seal.{sealWith}
+use Rattle.mode.specs.Open.{openWith}
 use Rattle.mode.specs.Open.Opened.{opened}
 
 -- E and D take blocks to blocks, and each undoes the other
@@ -18,11 +18,11 @@ pub record BlockCipher (E D : List ℕ → List ℕ) : Type 0 where
   pub D-undoes-E : (x : List ℕ) → Octets 16 x → D (E x) ≡ x
   pub E-undoes-D : (x : List ℕ) → Octets 16 x → E (D x) ≡ x
 
--- at one nonce and one string of associated data
-pub record RoundTrip (E D : List ℕ → List ℕ) (τ b : ℕ) (N A : List ℕ) : Type 0 where
+-- at one nonce and one T_A
+pub record RoundTrip (E D : List ℕ → List ℕ) (τ b : ℕ) (N Ta : List ℕ) : Type 0 where
   -- a sealing has t bytes more than its message
-  pub longer : (M : List ℕ) → Bytes M → Octets (length M + tagBytes τ) (ENC E τ b N A M)
+  pub longer : (M : List ℕ) → Bytes M → Octets (length M + tagBytes τ) (sealWith E τ b N Ta M)
   -- it opens to the message
-  pub opens : (M : List ℕ) → Bytes M → DEC E D τ b N A (ENC E τ b N A M) ≡ opened M
+  pub opens : (M : List ℕ) → Bytes M → openWith E D τ b N Ta (sealWith E τ b N Ta M) ≡ opened M
   -- what opens to a message is its sealing
-  pub only : (C M : List ℕ) → Bytes C → DEC E D τ b N A C ≡ opened M → Bytes M × (ENC E τ b N A M ≡ C)
+  pub only : (C M : List ℕ) → Bytes C → openWith E D τ b N Ta C ≡ opened M → Bytes M × (sealWith E τ b N Ta M ≡ C)

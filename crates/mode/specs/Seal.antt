@@ -1,4 +1,5 @@
--- ENC of document 002, over any block cipher E, any τ and b.
+-- ENC of document 002, over any block cipher E, any τ and b. All but its first step, T_A ← H(K, A), is a sealing with T_A, any string of
+-- t bytes.
 -- Assumes nothing.
 use mathlib.Core.Bool.{cond}
 use mathlib.Core.List.{List, [], _∷_, _++_}
@@ -17,6 +18,10 @@ use Rattle.mode.specs.Forms.Form.{short, joined, separate}
 unfoldable pub checksum : List ℕ → ℕ → List ℕ
 checksum M′ zero = replicate 16 0
 checksum M′ (suc i) = xors (checksum M′ i) (block 16 M′ i)
+
+-- T = T_A ⊕ 0^{τ−ℓ} C_0
+unfoldable pub T : ℕ → List ℕ → List ℕ → List ℕ
+T τ Ta C₀ = xors Ta (leading (tagBytes τ) C₀)
 
 -- F_{3,5} where M_m has under n bits, F_{5,3} where it has n, of F_{2,4}(Δ)
 unfoldable pub lastOffset : List ℕ → ℕ → List ℕ
@@ -75,24 +80,24 @@ module _ (E : List ℕ → List ℕ) where
 
     -- C_1 = MSB_τ(E(0^{n−τ} T_A ⊕ pad(C_0) ⊕ F_{3,3}(Δ)))
     unfoldable pub shortTag : List ℕ → List ℕ → List ℕ → List ℕ
-    shortTag N A C₀ = take (tagBytes τ) (E (xors (xors (leading 16 (tagOfData E τ b A)) (pad C₀)) (F 3 3 (Δ₀ N))))
-
-    -- T = T_A ⊕ 0^{τ−ℓ} C_0
-    unfoldable pub T : List ℕ → List ℕ → List ℕ
-    T A C₀ = xors (tagOfData E τ b A) (leading (tagBytes τ) C₀)
+    shortTag N Ta C₀ = take (tagBytes τ) (E (xors (xors (leading 16 Ta) (pad C₀)) (F 3 3 (Δ₀ N))))
 
     -- the sealing in each form
     unfoldable pub sealAs : Form → List ℕ → List ℕ → List ℕ → List ℕ
-    sealAs short N A M = let C₀ = masked N M in C₀ ++ shortTag N A C₀
-    sealAs joined N A M =
+    sealAs short N Ta M = let C₀ = masked N M in C₀ ++ shortTag N Ta C₀
+    sealAs joined N Ta M =
         let l = ell τ b / 8 in
         let C₀ = masked N (take l M) in
-        C₀ ++ joinedTail (Δ₀ N) (T A C₀) (drop l M) (fullBlocks l (length M) - 1)
-    sealAs separate N A M =
+        C₀ ++ joinedTail (Δ₀ N) (T τ Ta C₀) (drop l M) (fullBlocks l (length M) - 1)
+    sealAs separate N Ta M =
         let l = ell τ b / 8 in
         let C₀ = masked N (take l M) in
-        C₀ ++ separateTail τ (Δ₀ N) (T A C₀) (drop l M) (fullBlocks l (length M))
+        C₀ ++ separateTail τ (Δ₀ N) (T τ Ta C₀) (drop l M) (fullBlocks l (length M))
 
-    -- ENC(K, N, A, M)
-    unfoldable pub ENC : List ℕ → List ℕ → List ℕ → List ℕ
-    ENC N A M = sealAs (sealForm (ell τ b / 8) (tagBytes τ) (length M)) N A M
+    -- ENC after its first step
+    unfoldable pub sealWith : List ℕ → List ℕ → List ℕ → List ℕ
+    sealWith N Ta M = sealAs (sealForm (ell τ b / 8) (tagBytes τ) (length M)) N Ta M
+
+    -- ENC(K, N, A, M): T_A is H(K, A)
+    abbrev pub ENC : List ℕ → List ℕ → List ℕ → List ℕ
+    ENC N A M = sealWith N (tagOfData E τ b A) M

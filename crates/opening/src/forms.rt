@@ -13,7 +13,7 @@ ghost use mathlib.Core.Path.{_≡_};
 ghost use mathlib.Core.Bool.{true};
 ghost use mathlib.Core.List.{_++_};
 ghost use Prim.Native.Nat.{_+_, _-_, _/_, _≤_, _<_};
-ghost use lib.ListN.{length, drop};
+ghost use lib.ListN.{length, take, drop};
 ghost use Rattle.fips197.specs.Schedule.{isKey};
 ghost use Rattle.fips197.specs.Cipher.{cipher, invCipher};
 ghost use Rattle.aes.specs.Context.{contextOf};
@@ -22,7 +22,7 @@ ghost use Rattle.mode.specs.Forms.{fullBlocks, lastLength, openForm};
 ghost use Rattle.mode.specs.Forms.Form.{short, joined, separate};
 ghost use Rattle.mode.specs.Offsets.{leading};
 ghost use Rattle.mode.specs.Seal.{Δ₀, masked, T};
-ghost use Rattle.mode.specs.Open.{Tried, attempt, DEC, Answered};
+ghost use Rattle.mode.specs.Open.{Tried, attempt, openWith, Answered};
 
 // M_0 over the first bytes of out, and what the joined and the separate form go on with.
 fn open_first(
@@ -31,17 +31,17 @@ fn open_first(
     tag: u8,
     capacity: u8,
     nonce: &[u8],
-    header: &[u8],
+    hash: [u8; 16],
     first: &[u8],
     out: &mut [u8],
 ) -> First
     requires { ⌜ isKey (now key) ≡ true ⌝ }
     requires { ⌜ now ctx ≡ contextOf (now key) ⌝ }
     requires { ⌜ Fits tag capacity ⌝ }
-    requires { ⌜ (length (now nonce) ≡ 12) × (length (now header) ≤ 4096) × (length (now first) ≤ tagBytes tag) × (length (now first) ≤ length (now out)) ⌝ }
-    ensures { λ h. ⌜ (h .offset ≡ Δ₀ (cipher (now (key .entry))) tag capacity (now (nonce .entry))) × (h .tag ≡ leading 16 (T (cipher (now (key .entry))) tag capacity (now (header .entry)) (now (first .entry)))) × (length (T (cipher (now (key .entry))) tag capacity (now (header .entry)) (now (first .entry))) ≡ tagBytes tag) × (now (out .exit) ≡ masked (cipher (now (key .entry))) tag capacity (now (nonce .entry)) (now (first .entry)) ++ drop (length (now (first .entry))) (now (out .entry))) ⌝ }
+    requires { ⌜ (length (now nonce) ≡ 12) × (length (now first) ≤ tagBytes tag) × (length (now first) ≤ length (now out)) ⌝ }
+    ensures { λ h. ⌜ (h .offset ≡ Δ₀ (cipher (now (key .entry))) tag capacity (now (nonce .entry))) × (h .tag ≡ leading 16 (T tag (take (tagBytes tag) hash) (now (first .entry)))) × (length (T tag (take (tagBytes tag) hash) (now (first .entry))) ≡ tagBytes tag) × (now (out .exit) ≡ masked (cipher (now (key .entry))) tag capacity (now (nonce .entry)) (now (first .entry)) ++ drop (length (now (first .entry))) (now (out .entry))) ⌝ }
 {
-    let b = cover(key, ctx, tag, capacity, nonce, header, first, out);
+    let b = cover(key, ctx, tag, capacity, nonce, hash, first, out);
     with_first(b, first)
 }
 
@@ -52,18 +52,18 @@ fn open_short(
     tag: u8,
     capacity: u8,
     nonce: &[u8],
-    header: &[u8],
+    hash: [u8; 16],
     text: &[u8],
     out: &mut [u8],
 ) -> bool
     requires { ⌜ isKey (now key) ≡ true ⌝ }
     requires { ⌜ now ctx ≡ contextOf (now key) ⌝ }
     requires { ⌜ Fits tag capacity ⌝ }
-    requires { ⌜ (length (now nonce) ≡ 12) × (length (now header) ≤ 4096) × (tagBytes tag ≤ length (now text)) × (length (now text) ≤ ell tag capacity / 8 + tagBytes tag) × (length (now text) ≤ length (now out) + tagBytes tag) ⌝ }
-    ensures { λ r. ⌜ Tried (attempt (cipher (now (key .entry))) (invCipher (now (key .entry))) tag capacity short (now (nonce .entry)) (now (header .entry)) (now (text .entry))) (length (now (text .entry)) - tagBytes tag) r (now (out .entry)) (now (out .exit)) ⌝ }
+    requires { ⌜ (length (now nonce) ≡ 12) × (tagBytes tag ≤ length (now text)) × (length (now text) ≤ ell tag capacity / 8 + tagBytes tag) × (length (now text) ≤ length (now out) + tagBytes tag) ⌝ }
+    ensures { λ r. ⌜ Tried (attempt (cipher (now (key .entry))) (invCipher (now (key .entry))) tag capacity short (now (nonce .entry)) (take (tagBytes tag) hash) (now (text .entry))) (length (now (text .entry)) - tagBytes tag) r (now (out .entry)) (now (out .exit)) ⌝ }
 {
     let n = text.len() - tag_bytes(tag);
-    let b = cover(key, ctx, tag, capacity, nonce, header, &text[..n], out);
+    let b = cover(key, ctx, tag, capacity, nonce, hash, &text[..n], out);
     let data = b.data;
     let offset = b.offset;
     let e = short_tag(key, ctx, data, offset, &text[..n]);
@@ -77,18 +77,18 @@ fn open_joined(
     tag: u8,
     capacity: u8,
     nonce: &[u8],
-    header: &[u8],
+    hash: [u8; 16],
     text: &[u8],
     out: &mut [u8],
 ) -> bool
     requires { ⌜ isKey (now key) ≡ true ⌝ }
     requires { ⌜ now ctx ≡ contextOf (now key) ⌝ }
     requires { ⌜ Fits tag capacity ⌝ }
-    requires { ⌜ (length (now nonce) ≡ 12) × (length (now header) ≤ 4096) × (ell tag capacity / 8 + tagBytes tag < length (now text)) × (1 ≤ fullBlocks (ell tag capacity / 8) (length (now text))) × (tagBytes tag < lastLength (ell tag capacity / 8) (length (now text))) × (length (now text) ≤ length (now out) + tagBytes tag) ⌝ }
-    ensures { λ r. ⌜ Tried (attempt (cipher (now (key .entry))) (invCipher (now (key .entry))) tag capacity joined (now (nonce .entry)) (now (header .entry)) (now (text .entry))) (length (now (text .entry)) - tagBytes tag) r (now (out .entry)) (now (out .exit)) ⌝ }
+    requires { ⌜ (length (now nonce) ≡ 12) × (ell tag capacity / 8 + tagBytes tag < length (now text)) × (1 ≤ fullBlocks (ell tag capacity / 8) (length (now text))) × (tagBytes tag < lastLength (ell tag capacity / 8) (length (now text))) × (length (now text) ≤ length (now out) + tagBytes tag) ⌝ }
+    ensures { λ r. ⌜ Tried (attempt (cipher (now (key .entry))) (invCipher (now (key .entry))) tag capacity joined (now (nonce .entry)) (take (tagBytes tag) hash) (now (text .entry))) (length (now (text .entry)) - tagBytes tag) r (now (out .entry)) (now (out .exit)) ⌝ }
 {
     let l = first_bytes(tag, capacity);
-    let h = open_first(key, ctx, tag, capacity, nonce, header, &text[..l], out);
+    let h = open_first(key, ctx, tag, capacity, nonce, hash, &text[..l], out);
     let whole = h.tag;
     let offset = h.offset;
     let t = &whole[16 - tag_bytes(tag)..];
@@ -102,18 +102,18 @@ fn open_separate(
     tag: u8,
     capacity: u8,
     nonce: &[u8],
-    header: &[u8],
+    hash: [u8; 16],
     text: &[u8],
     out: &mut [u8],
 ) -> bool
     requires { ⌜ isKey (now key) ≡ true ⌝ }
     requires { ⌜ now ctx ≡ contextOf (now key) ⌝ }
     requires { ⌜ Fits tag capacity ⌝ }
-    requires { ⌜ (length (now nonce) ≡ 12) × (length (now header) ≤ 4096) × (ell tag capacity / 8 + tagBytes tag < length (now text)) × ((length (now text) - ell tag capacity / 8 - tagBytes tag - 1) / 16 ≡ fullBlocks (ell tag capacity / 8) (length (now text)) - 1) × (length (now text) ≤ length (now out) + tagBytes tag) ⌝ }
-    ensures { λ r. ⌜ Tried (attempt (cipher (now (key .entry))) (invCipher (now (key .entry))) tag capacity separate (now (nonce .entry)) (now (header .entry)) (now (text .entry))) (length (now (text .entry)) - tagBytes tag) r (now (out .entry)) (now (out .exit)) ⌝ }
+    requires { ⌜ (length (now nonce) ≡ 12) × (ell tag capacity / 8 + tagBytes tag < length (now text)) × ((length (now text) - ell tag capacity / 8 - tagBytes tag - 1) / 16 ≡ fullBlocks (ell tag capacity / 8) (length (now text)) - 1) × (length (now text) ≤ length (now out) + tagBytes tag) ⌝ }
+    ensures { λ r. ⌜ Tried (attempt (cipher (now (key .entry))) (invCipher (now (key .entry))) tag capacity separate (now (nonce .entry)) (take (tagBytes tag) hash) (now (text .entry))) (length (now (text .entry)) - tagBytes tag) r (now (out .entry)) (now (out .exit)) ⌝ }
 {
     let l = first_bytes(tag, capacity);
-    let h = open_first(key, ctx, tag, capacity, nonce, header, &text[..l], out);
+    let h = open_first(key, ctx, tag, capacity, nonce, hash, &text[..l], out);
     let whole = h.tag;
     let offset = h.offset;
     let t = &whole[16 - tag_bytes(tag)..];
@@ -127,50 +127,50 @@ fn open_message(
     tag: u8,
     capacity: u8,
     nonce: &[u8],
-    header: &[u8],
+    hash: [u8; 16],
     text: &[u8],
     out: &mut [u8],
 ) -> bool
     requires { ⌜ isKey (now key) ≡ true ⌝ }
     requires { ⌜ now ctx ≡ contextOf (now key) ⌝ }
     requires { ⌜ Fits tag capacity ⌝ }
-    requires { ⌜ (length (now nonce) ≡ 12) × (length (now header) ≤ 4096) × (tagBytes tag ≤ length (now text)) × (length (now text) ≤ length (now out) + tagBytes tag) ⌝ }
-    ensures { λ r. ⌜ Tried (attempt (cipher (now (key .entry))) (invCipher (now (key .entry))) tag capacity (openForm (ell tag capacity / 8) (tagBytes tag) (length (now (text .entry)))) (now (nonce .entry)) (now (header .entry)) (now (text .entry))) (length (now (text .entry)) - tagBytes tag) r (now (out .entry)) (now (out .exit)) ⌝ }
+    requires { ⌜ (length (now nonce) ≡ 12) × (tagBytes tag ≤ length (now text)) × (length (now text) ≤ length (now out) + tagBytes tag) ⌝ }
+    ensures { λ r. ⌜ Tried (attempt (cipher (now (key .entry))) (invCipher (now (key .entry))) tag capacity (openForm (ell tag capacity / 8) (tagBytes tag) (length (now (text .entry)))) (now (nonce .entry)) (take (tagBytes tag) hash) (now (text .entry))) (length (now (text .entry)) - tagBytes tag) r (now (out .entry)) (now (out .exit)) ⌝ }
 {
     let l = first_bytes(tag, capacity);
     let t = tag_bytes(tag);
     let n = text.len();
     if n <= l + t {
-        return open_short(key, ctx, tag, capacity, nonce, header, text, out);
+        return open_short(key, ctx, tag, capacity, nonce, hash, text, out);
     }
     let k = (n - l - 1) / 16;
     if k < 1 {
-        return open_separate(key, ctx, tag, capacity, nonce, header, text, out);
+        return open_separate(key, ctx, tag, capacity, nonce, hash, text, out);
     }
     if n - l - 16 * k <= t {
-        return open_separate(key, ctx, tag, capacity, nonce, header, text, out);
+        return open_separate(key, ctx, tag, capacity, nonce, hash, text, out);
     }
-    open_joined(key, ctx, tag, capacity, nonce, header, text, out)
+    open_joined(key, ctx, tag, capacity, nonce, hash, text, out)
 }
 
-// DEC: the message over the first bytes of out, or zeros where the tags differ.
+// DEC, from the sum whose first t bytes are T_A: the message over the first bytes of out, or zeros where the tags differ.
 pub fn open_text(
     key: &[u8],
     ctx: &aes::Context,
     tag: u8,
     capacity: u8,
     nonce: &[u8],
-    header: &[u8],
+    hash: [u8; 16],
     text: &[u8],
     out: &mut [u8],
 ) -> bool
     requires { ⌜ isKey (now key) ≡ true ⌝ }
     requires { ⌜ now ctx ≡ contextOf (now key) ⌝ }
     requires { ⌜ Fits tag capacity ⌝ }
-    requires { ⌜ (length (now nonce) ≡ 12) × (length (now header) ≤ 4096) × (tagBytes tag ≤ length (now text)) × (length (now text) ≤ length (now out) + tagBytes tag) ⌝ }
-    ensures { λ r. ⌜ Answered (DEC (cipher (now (key .entry))) (invCipher (now (key .entry))) tag capacity (now (nonce .entry)) (now (header .entry)) (now (text .entry))) (length (now (text .entry)) - tagBytes tag) r (now (out .entry)) (now (out .exit)) ⌝ }
+    requires { ⌜ (length (now nonce) ≡ 12) × (tagBytes tag ≤ length (now text)) × (length (now text) ≤ length (now out) + tagBytes tag) ⌝ }
+    ensures { λ r. ⌜ Answered (openWith (cipher (now (key .entry))) (invCipher (now (key .entry))) tag capacity (now (nonce .entry)) (take (tagBytes tag) hash) (now (text .entry))) (length (now (text .entry)) - tagBytes tag) r (now (out .entry)) (now (out .exit)) ⌝ }
 {
-    if open_message(key, ctx, tag, capacity, nonce, header, text, out) {
+    if open_message(key, ctx, tag, capacity, nonce, hash, text, out) {
         return true;
     }
     clear(out, text.len() - tag_bytes(tag));

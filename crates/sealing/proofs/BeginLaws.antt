@@ -10,7 +10,6 @@ use Rattle.octets.specs.Xor.{xors}
 use Rattle.octets.proofs.Xor.{append-xors, xors-self, length-xors}
 use Rattle.mode.specs.Sets.{tagBytes}
 use Rattle.mode.specs.Offsets.{leading, lastBytes}
-use Rattle.mode.specs.Data.{tagOfData}
 use Rattle.mode.specs.Seal.{R, masked, T}
 use Rattle.sealing.proofs.TailLaws.{size-of}
 
@@ -40,7 +39,7 @@ leading-xors t A C e h k =
     ap₂ xors a (leading-twice 16 t C h k) ∙ append-xors z z A (leading t C) refl
     ∙ ap (λ (x : List ℕ). x ++ xors A (leading t C)) (xors-self z ∙ ap (λ (m : ℕ). replicate m 0) (length-replicate (16 - t) 0)) ∙ sym c
 
-module _ (E : List ℕ → List ℕ) (τ b : ℕ) (N A : List ℕ) where
+module _ (E : List ℕ → List ℕ) (τ b : ℕ) (N Ta : List ℕ) where
   -- C_0 by the mask
   pub masked-is : (m r : List ℕ) → r ≡ R E τ b N → length r ≡ 16 → length m ≤ 16 → xors m (take (length m) (drop (16 - length m) r)) ≡ masked E τ b N m
   unfolding masked lastBytes
@@ -58,18 +57,18 @@ module _ (E : List ℕ → List ℕ) (τ b : ℕ) (N A : List ℕ) where
   first-taken m d out w l h = ap (take (length m)) w ∙ take-at (masked E τ b N m) (drop (length m) d) (length m) (size-of d (masked E τ b N m) out (length m) w l h)
 
   -- T with zeros before it, and that T has t bytes
-  pub first-tag : (C ta t : List ℕ) → ta ≡ leading 16 (tagOfData E τ b A) → length (tagOfData E τ b A) ≡ tagBytes τ → length C ≤ tagBytes τ → tagBytes τ ≤ 16 →
-      t ≡ xors ta (leading 16 C) → (t ≡ leading 16 (T E τ b A C)) × (length (T E τ b A C) ≡ tagBytes τ)
+  pub first-tag : (C ta t : List ℕ) → ta ≡ leading 16 Ta → length Ta ≡ tagBytes τ → length C ≤ tagBytes τ → tagBytes τ ≤ 16 →
+      t ≡ xors ta (leading 16 C) → (t ≡ leading 16 (T τ Ta C)) × (length (T τ Ta C) ≡ tagBytes τ)
   unfolding T
   first-tag C ta t ed la h ht et = (
-    et ∙ ap (λ (x : List ℕ). xors x (leading 16 C)) ed ∙ leading-xors (tagBytes τ) (tagOfData E τ b A) C la h ht,
-    length-xors (tagOfData E τ b A) (leading (tagBytes τ) C) ∙ omega (arith, length-leading (tagBytes τ) C h),
+    et ∙ ap (λ (x : List ℕ). xors x (leading 16 C)) ed ∙ leading-xors (tagBytes τ) Ta C la h ht,
+    length-xors Ta (leading (tagBytes τ) C) ∙ omega (arith, length-leading (tagBytes τ) C h),
   )
 
   -- the same where C_0 is read off what was written
   pub written-tag : (m d out ta t : List ℕ) → out ≡ masked E τ b N m ++ drop (length m) d → length out ≡ length d → length m ≤ length d →
-      ta ≡ leading 16 (tagOfData E τ b A) → length (tagOfData E τ b A) ≡ tagBytes τ → length m ≤ tagBytes τ → tagBytes τ ≤ 16 →
-      t ≡ xors ta (leading 16 (take (length m) out)) → (t ≡ leading 16 (T E τ b A (masked E τ b N m))) × (length (T E τ b A (masked E τ b N m)) ≡ tagBytes τ)
+      ta ≡ leading 16 Ta → length Ta ≡ tagBytes τ → length m ≤ tagBytes τ → tagBytes τ ≤ 16 →
+      t ≡ xors ta (leading 16 (take (length m) out)) → (t ≡ leading 16 (T τ Ta (masked E τ b N m))) × (length (T τ Ta (masked E τ b N m)) ≡ tagBytes τ)
   written-tag m d out ta t w l h ed la hm ht et =
       let s : length (masked E τ b N m) ≡ length m = size-of d (masked E τ b N m) out (length m) w l h in
       first-tag (masked E τ b N m) ta t ed la (omega arith) ht (et ∙ ap (λ (x : List ℕ). xors ta (leading 16 x)) (first-taken m d out w l h))

@@ -11,8 +11,7 @@ use Rattle.mode.specs.Sets.{tagBytes, ell}
 use Rattle.mode.specs.Forms.{Form, sealForm}
 use Rattle.mode.specs.Forms.Form.{short, joined, separate}
 use Rattle.mode.specs.Offsets.{F, pad, leading}
-use Rattle.mode.specs.Data.{tagOfData}
-use Rattle.mode.specs.Seal.{Δ₀, masked, shortTag, T, joinedTail, separateTail, sealAs, ENC}
+use Rattle.mode.specs.Seal.{Δ₀, masked, shortTag, T, joinedTail, separateTail, sealAs, sealWith}
 use Rattle.sealing.proofs.PieceLaws.{then, take-size}
 use Rattle.sealing.proofs.TailLaws.{to-end}
 use Rattle.sealing.proofs.BeginLaws.{first-taken}
@@ -44,7 +43,7 @@ two-blocks h = omega arith
 
 -- Before the tail of a message or ciphertext m goes over d, n bytes in all: its first l bytes do already, whole is T with zeros
 -- before it, which is over C_0, and l and t are ℓ and τ in bytes.
-pub record Headed (E : List ℕ → List ℕ) (τ b : ℕ) (N A C₀ m d out whole Δ : List ℕ) (n l t : ℕ) : Type 0 where
+pub record Headed (E : List ℕ → List ℕ) (τ b : ℕ) (N Ta C₀ m d out whole Δ : List ℕ) (n l t : ℕ) : Type 0 where
   pub bits : l ≡ ell τ b / 8
   pub tags : t ≡ tagBytes τ
   pub longer : l ≤ length m
@@ -53,21 +52,21 @@ pub record Headed (E : List ℕ → List ℕ) (τ b : ℕ) (N A C₀ m d out who
   pub head : out ≡ masked E τ b N (take l m) ++ drop (length (take l m)) d
   pub kept : length out ≡ length d
   pub block : length whole ≡ 16
-  pub holds : whole ≡ leading 16 (T E τ b A C₀)
-  pub size : length (T E τ b A C₀) ≡ tagBytes τ
+  pub holds : whole ≡ leading 16 (T τ Ta C₀)
+  pub size : length (T τ Ta C₀) ≡ tagBytes τ
   pub start : Δ ≡ Δ₀ E τ b N
 
-module _ (E : List ℕ → List ℕ) (τ b : ℕ) (N A : List ℕ) where
+module _ (E : List ℕ → List ℕ) (τ b : ℕ) (N Ta : List ℕ) where
   pub short-turn : (m d out ta off e w : List ℕ) → out ≡ masked E τ b N m ++ drop (length m) d → length out ≡ length d → length m + tagBytes τ ≤ length d → tagBytes τ ≤ 16 →
-      ta ≡ leading 16 (tagOfData E τ b A) → off ≡ Δ₀ E τ b N → e ≡ E (xors (xors ta (pad (take (length m) out))) (F 3 3 off)) → length e ≡ 16 →
+      ta ≡ leading 16 Ta → off ≡ Δ₀ E τ b N → e ≡ E (xors (xors ta (pad (take (length m) out))) (F 3 3 off)) → length e ≡ 16 →
       w ≡ take (tagBytes τ) e ++ drop (length (take (tagBytes τ) e)) (take (length out - length m) (drop (length m) out)) →
       length w ≡ length (take (length out - length m) (drop (length m) out)) →
-      take (length m) out ++ (w ++ drop (length out - length m) (drop (length m) out)) ≡ sealAs E τ b short N A m ++ drop (length m + tagBytes τ) d
+      take (length m) out ++ (w ++ drop (length out - length m) (drop (length m) out)) ≡ sealAs E τ b short N Ta m ++ drop (length m + tagBytes τ) d
   unfolding sealAs shortTag
   short-turn m d out ta off e w eo lo hd ht eta eoff ee le ew lw =
       let l : length (take (tagBytes τ) e) ≡ tagBytes τ = simp length-take (omega arith) in
-      let x : e ≡ E (xors (xors (leading 16 (tagOfData E τ b A)) (pad (masked E τ b N m))) (F 3 3 (Δ₀ E τ b N))) =
-      ee ∙ ap E (ap₂ xors (ap₂ xors eta (ap pad (first-taken E τ b N A m d out eo lo (omega arith)))) (ap (F 3 3) eoff)) in
+      let x : e ≡ E (xors (xors (leading 16 Ta) (pad (masked E τ b N m))) (F 3 3 (Δ₀ E τ b N))) =
+      ee ∙ ap E (ap₂ xors (ap₂ xors eta (ap pad (first-taken E τ b N Ta m d out eo lo (omega arith)))) (ap (F 3 3) eoff)) in
       then d (masked E τ b N m) out (take (tagBytes τ) e) w (length m) (tagBytes τ) eo lo hd
       (ew ∙ ap (λ (k : ℕ). take (tagBytes τ) e ++ drop k (take (length out - length m) (drop (length m) out))) l) lw
       ∙ ap (λ (y : List ℕ). (masked E τ b N m ++ take (tagBytes τ) y) ++ drop (length m + tagBytes τ) d) x
@@ -81,12 +80,12 @@ module _ (E : List ℕ → List ℕ) (τ b : ℕ) (N A : List ℕ) where
       take-all (16 - (16 - n)) (drop (16 - n) t) (simp length-drop (omega arith)) ∙ ap (drop (16 - n)) w ∙ drop-at z Tag (16 - n) (length-replicate (16 - n) 0)
 
   -- what follows C_0, by a writer of it that is lent the rest of out: G is the joined or the separate tail
-  tail-turn : (G : List ℕ → List ℕ → List ℕ → List ℕ) {m d out whole Δ : List ℕ} {l t : ℕ} (w : List ℕ) → Headed E τ b N A (masked E τ b N (take l m)) m d out whole Δ (length m + tagBytes τ) l t →
+  tail-turn : (G : List ℕ → List ℕ → List ℕ → List ℕ) {m d out whole Δ : List ℕ} {l t : ℕ} (w : List ℕ) → Headed E τ b N Ta (masked E τ b N (take l m)) m d out whole Δ (length m + tagBytes τ) l t →
       w ≡ G Δ (take (16 - (16 - t)) (drop (16 - t) whole)) (take (length m - l) (drop l m))
       ++ drop (length (take (length m - l) (drop l m)) + tagBytes τ) (take (length out - l) (drop l out)) →
       length w ≡ length (take (length out - l) (drop l out)) →
       take l out ++ (w ++ drop (length out - l) (drop l out))
-      ≡ (let L = ell τ b / 8 in masked E τ b N (take L m) ++ G (Δ₀ E τ b N) (T E τ b A (masked E τ b N (take L m))) (drop L m)) ++ drop (length m + tagBytes τ) d
+      ≡ (let L = ell τ b / 8 in masked E τ b N (take L m) ++ G (Δ₀ E τ b N) (T τ Ta (masked E τ b N (take L m))) (drop L m)) ++ drop (length m + tagBytes τ) d
   tail-turn G {m} {d} {out} {whole} {Δ} {l} {t} w v e le =
       let C = masked E τ b N (take l m) in
       let tag = take (16 - (16 - t)) (drop (16 - t) whole) in
@@ -94,30 +93,30 @@ module _ (E : List ℕ → List ℕ) (τ b : ℕ) (N A : List ℕ) where
       let n : length (take l m) ≡ l = simp length-take (omega arith) in
       let er : rest ≡ drop l m = to-end m l in
       let lr : length rest ≡ length m - l = ap length er ∙ length-drop l m in
-      let eT : tag ≡ T E τ b A C = tag-end whole (T E τ b A C) t (v .holds) (v .size ∙ sym (v .tags)) (omega arith) (v .block) in
+      let eT : tag ≡ T τ Ta C = tag-end whole (T τ Ta C) t (v .holds) (v .size ∙ sym (v .tags)) (omega arith) (v .block) in
       let all : l + (length rest + tagBytes τ) ≡ length m + tagBytes τ = omega (arith, lr) in
-      let same : G Δ tag rest ≡ G (Δ₀ E τ b N) (T E τ b A C) (drop l m) = rw (v .start, eT, er) refl in
+      let same : G Δ tag rest ≡ G (Δ₀ E τ b N) (T τ Ta C) (drop l m) = rw (v .start, eT, er) refl in
       then d C out (G Δ tag rest) w l (length rest + tagBytes τ) (v .head ∙ ap (λ (k : ℕ). C ++ drop k d) n) (v .kept) (omega (arith, lr)) e le
       ∙ ap₂ (λ (x : List ℕ) (k : ℕ). (C ++ x) ++ drop k d) same all
-      ∙ ap (λ (k : ℕ). (masked E τ b N (take k m) ++ G (Δ₀ E τ b N) (T E τ b A (masked E τ b N (take k m))) (drop k m)) ++ drop (length m + tagBytes τ) d) (v .bits)
+      ∙ ap (λ (k : ℕ). (masked E τ b N (take k m) ++ G (Δ₀ E τ b N) (T τ Ta (masked E τ b N (take k m))) (drop k m)) ++ drop (length m + tagBytes τ) d) (v .bits)
 
-  pub separate-turn : {m d out whole Δ : List ℕ} {l t : ℕ} (w : List ℕ) → Headed E τ b N A (masked E τ b N (take l m)) m d out whole Δ (length m + tagBytes τ) l t →
+  pub separate-turn : {m d out whole Δ : List ℕ} {l t : ℕ} (w : List ℕ) → Headed E τ b N Ta (masked E τ b N (take l m)) m d out whole Δ (length m + tagBytes τ) l t →
       w ≡ separateTail E τ Δ (take (16 - (16 - t)) (drop (16 - t) whole)) (take (length m - l) (drop l m)) ((length (take (length m - l) (drop l m)) - 1) / 16)
       ++ drop (length (take (length m - l) (drop l m)) + tagBytes τ) (take (length out - l) (drop l out)) →
       length w ≡ length (take (length out - l) (drop l out)) →
-      take l out ++ (w ++ drop (length out - l) (drop l out)) ≡ sealAs E τ b separate N A m ++ drop (length m + tagBytes τ) d
+      take l out ++ (w ++ drop (length out - l) (drop l out)) ≡ sealAs E τ b separate N Ta m ++ drop (length m + tagBytes τ) d
   unfolding sealAs
   separate-turn {m} {d} w v e le =
       let L = ell τ b / 8 in
       let C = masked E τ b N (take L m) in
       tail-turn (λ Δ Tag M. separateTail E τ Δ Tag M ((length M - 1) / 16)) w v e le
-      ∙ ap (λ (n : ℕ). (C ++ separateTail E τ (Δ₀ E τ b N) (T E τ b A C) (drop L m) ((n - 1) / 16)) ++ drop (length m + tagBytes τ) d) (length-drop L m)
+      ∙ ap (λ (n : ℕ). (C ++ separateTail E τ (Δ₀ E τ b N) (T τ Ta C) (drop L m) ((n - 1) / 16)) ++ drop (length m + tagBytes τ) d) (length-drop L m)
 
-  pub joined-turn : {m d out whole Δ : List ℕ} {l t : ℕ} (w : List ℕ) → Headed E τ b N A (masked E τ b N (take l m)) m d out whole Δ (length m + tagBytes τ) l t →
+  pub joined-turn : {m d out whole Δ : List ℕ} {l t : ℕ} (w : List ℕ) → Headed E τ b N Ta (masked E τ b N (take l m)) m d out whole Δ (length m + tagBytes τ) l t →
       w ≡ joinedTail E Δ (take (16 - (16 - t)) (drop (16 - t) whole)) (take (length m - l) (drop l m)) ((length (take (length m - l) (drop l m)) - 1) / 16 - 1)
       ++ drop (length (take (length m - l) (drop l m)) + length (take (16 - (16 - t)) (drop (16 - t) whole))) (take (length out - l) (drop l out)) →
       length w ≡ length (take (length out - l) (drop l out)) →
-      take l out ++ (w ++ drop (length out - l) (drop l out)) ≡ sealAs E τ b joined N A m ++ drop (length m + tagBytes τ) d
+      take l out ++ (w ++ drop (length out - l) (drop l out)) ≡ sealAs E τ b joined N Ta m ++ drop (length m + tagBytes τ) d
   unfolding sealAs
   joined-turn {m} {d} {out} {whole} {Δ} {l} {t} w v e le =
       let L = ell τ b / 8 in
@@ -127,9 +126,9 @@ module _ (E : List ℕ → List ℕ) (τ b : ℕ) (N A : List ℕ) where
       let size : length tag ≡ tagBytes τ = part-sizes m whole l t (v .block) (omega arith) .1 ∙ v .tags in
       tail-turn (λ Δ Tag M. joinedTail E Δ Tag M ((length M - 1) / 16 - 1)) w v
       (e ∙ ap (λ (k : ℕ). joinedTail E Δ tag rest ((length rest - 1) / 16 - 1) ++ drop (length rest + k) (take (length out - l) (drop l out))) size) le
-      ∙ ap (λ (n : ℕ). (C ++ joinedTail E (Δ₀ E τ b N) (T E τ b A C) (drop L m) ((n - 1) / 16 - 1)) ++ drop (length m + tagBytes τ) d) (length-drop L m)
+      ∙ ap (λ (n : ℕ). (C ++ joinedTail E (Δ₀ E τ b N) (T τ Ta C) (drop L m) ((n - 1) / 16 - 1)) ++ drop (length m + tagBytes τ) d) (length-drop L m)
 
-  -- ENC is the form that the length takes
-  pub enc-form : (f : Form) (m z out : List ℕ) → sealForm (ell τ b / 8) (tagBytes τ) (length m) ≡ f → out ≡ sealAs E τ b f N A m ++ z → out ≡ ENC E τ b N A m ++ z
-  unfolding ENC
-  enc-form f m z out e w = w ∙ ap (λ (g : Form). sealAs E τ b g N A m ++ z) (sym e)
+  -- the sealing is in the form that the length takes
+  pub enc-form : (f : Form) (m z out : List ℕ) → sealForm (ell τ b / 8) (tagBytes τ) (length m) ≡ f → out ≡ sealAs E τ b f N Ta m ++ z → out ≡ sealWith E τ b N Ta m ++ z
+  unfolding sealWith
+  enc-form f m z out e w = w ∙ ap (λ (g : Form). sealAs E τ b g N Ta m ++ z) (sym e)

@@ -2,20 +2,18 @@
 use crate::pieces::mask;
 use crate::pieces::nonce_block;
 use crate::pieces::right_aligned;
-use mode_steps::data_hash;
 use mode_steps::start;
 ghost use mathlib.Core.Path.{_≡_};
 ghost use mathlib.Core.Bool.{true};
 ghost use mathlib.Core.List.{_++_};
 ghost use Prim.Native.Nat.{_/_, _≤_};
-ghost use lib.ListN.{length, drop};
+ghost use lib.ListN.{length, take, drop};
 ghost use Rattle.octets.specs.Xor.{xors};
 ghost use Rattle.fips197.specs.Schedule.{isKey};
 ghost use Rattle.fips197.specs.Cipher.{cipher};
 ghost use Rattle.aes.specs.Context.{contextOf};
 ghost use Rattle.mode.specs.Sets.{Fits, ell, tagBytes};
 ghost use Rattle.mode.specs.Offsets.{leading};
-ghost use Rattle.mode.specs.Data.{tagOfData};
 ghost use Rattle.mode.specs.Seal.{R, Δ₀, masked, T};
 
 // ℓ, in bits.
@@ -57,18 +55,17 @@ fn begin(
     tag: u8,
     capacity: u8,
     nonce: &[u8],
-    header: &[u8],
+    hash: [u8; 16],
 ) -> Start
     requires { ⌜ isKey (now key) ≡ true ⌝ }
     requires { ⌜ now ctx ≡ contextOf (now key) ⌝ }
     requires { ⌜ Fits tag capacity ⌝ }
-    requires { ⌜ (length (now nonce) ≡ 12) × (length (now header) ≤ 4096) ⌝ }
-    ensures { λ b. ⌜ (b .r ≡ R (cipher (now (key .entry))) tag capacity (now (nonce .entry))) × (b .offset ≡ Δ₀ (cipher (now (key .entry))) tag capacity (now (nonce .entry))) × (b .data ≡ leading 16 (tagOfData (cipher (now (key .entry))) tag capacity (now (header .entry)))) × (length (tagOfData (cipher (now (key .entry))) tag capacity (now (header .entry))) ≡ tagBytes tag) ⌝ }
+    requires { ⌜ length (now nonce) ≡ 12 ⌝ }
+    ensures { λ b. ⌜ (b .r ≡ R (cipher (now (key .entry))) tag capacity (now (nonce .entry))) × (b .offset ≡ Δ₀ (cipher (now (key .entry))) tag capacity (now (nonce .entry))) × (b .data ≡ leading 16 (take (tagBytes tag) hash)) × (length (take (tagBytes tag) hash) ≡ tagBytes tag) ⌝ }
 {
     let r = aes::encrypt(key, ctx, nonce_block(tag, capacity, nonce));
     let offset = start(r, first_bits(tag, capacity));
-    let h = data_hash(key, ctx, tag, capacity, header);
-    let data = right_aligned(&h[..(tag / 8) as usize]);
+    let data = right_aligned(&hash[..(tag / 8) as usize]);
     Start {
         r: r,
         offset: offset,
@@ -89,17 +86,17 @@ pub fn cover(
     tag: u8,
     capacity: u8,
     nonce: &[u8],
-    header: &[u8],
+    hash: [u8; 16],
     first: &[u8],
     out: &mut [u8],
 ) -> Begun
     requires { ⌜ isKey (now key) ≡ true ⌝ }
     requires { ⌜ now ctx ≡ contextOf (now key) ⌝ }
     requires { ⌜ Fits tag capacity ⌝ }
-    requires { ⌜ (length (now nonce) ≡ 12) × (length (now header) ≤ 4096) × (length (now first) ≤ 16) × (length (now first) ≤ length (now out)) ⌝ }
-    ensures { λ b. ⌜ (b .offset ≡ Δ₀ (cipher (now (key .entry))) tag capacity (now (nonce .entry))) × (b .data ≡ leading 16 (tagOfData (cipher (now (key .entry))) tag capacity (now (header .entry)))) × (length (tagOfData (cipher (now (key .entry))) tag capacity (now (header .entry))) ≡ tagBytes tag) × (now (out .exit) ≡ masked (cipher (now (key .entry))) tag capacity (now (nonce .entry)) (now (first .entry)) ++ drop (length (now (first .entry))) (now (out .entry))) ⌝ }
+    requires { ⌜ (length (now nonce) ≡ 12) × (length (now first) ≤ 16) × (length (now first) ≤ length (now out)) ⌝ }
+    ensures { λ b. ⌜ (b .offset ≡ Δ₀ (cipher (now (key .entry))) tag capacity (now (nonce .entry))) × (b .data ≡ leading 16 (take (tagBytes tag) hash)) × (length (take (tagBytes tag) hash) ≡ tagBytes tag) × (now (out .exit) ≡ masked (cipher (now (key .entry))) tag capacity (now (nonce .entry)) (now (first .entry)) ++ drop (length (now (first .entry))) (now (out .entry))) ⌝ }
 {
-    let s = begin(key, ctx, tag, capacity, nonce, header);
+    let s = begin(key, ctx, tag, capacity, nonce, hash);
     let r = s.r;
     let offset = s.offset;
     let data = s.data;
@@ -137,16 +134,16 @@ pub fn seal_first(
     tag: u8,
     capacity: u8,
     nonce: &[u8],
-    header: &[u8],
+    hash: [u8; 16],
     first: &[u8],
     out: &mut [u8],
 ) -> First
     requires { ⌜ isKey (now key) ≡ true ⌝ }
     requires { ⌜ now ctx ≡ contextOf (now key) ⌝ }
     requires { ⌜ Fits tag capacity ⌝ }
-    requires { ⌜ (length (now nonce) ≡ 12) × (length (now header) ≤ 4096) × (length (now first) ≤ tagBytes tag) × (length (now first) ≤ length (now out)) ⌝ }
-    ensures { λ h. ⌜ (h .offset ≡ Δ₀ (cipher (now (key .entry))) tag capacity (now (nonce .entry))) × (h .tag ≡ leading 16 (T (cipher (now (key .entry))) tag capacity (now (header .entry)) (masked (cipher (now (key .entry))) tag capacity (now (nonce .entry)) (now (first .entry))))) × (length (T (cipher (now (key .entry))) tag capacity (now (header .entry)) (masked (cipher (now (key .entry))) tag capacity (now (nonce .entry)) (now (first .entry)))) ≡ tagBytes tag) × (now (out .exit) ≡ masked (cipher (now (key .entry))) tag capacity (now (nonce .entry)) (now (first .entry)) ++ drop (length (now (first .entry))) (now (out .entry))) ⌝ }
+    requires { ⌜ (length (now nonce) ≡ 12) × (length (now first) ≤ tagBytes tag) × (length (now first) ≤ length (now out)) ⌝ }
+    ensures { λ h. ⌜ (h .offset ≡ Δ₀ (cipher (now (key .entry))) tag capacity (now (nonce .entry))) × (h .tag ≡ leading 16 (T tag (take (tagBytes tag) hash) (masked (cipher (now (key .entry))) tag capacity (now (nonce .entry)) (now (first .entry))))) × (length (T tag (take (tagBytes tag) hash) (masked (cipher (now (key .entry))) tag capacity (now (nonce .entry)) (now (first .entry)))) ≡ tagBytes tag) × (now (out .exit) ≡ masked (cipher (now (key .entry))) tag capacity (now (nonce .entry)) (now (first .entry)) ++ drop (length (now (first .entry))) (now (out .entry))) ⌝ }
 {
-    let b = cover(key, ctx, tag, capacity, nonce, header, first, out);
+    let b = cover(key, ctx, tag, capacity, nonce, hash, first, out);
     with_first(b, &out[..first.len()])
 }

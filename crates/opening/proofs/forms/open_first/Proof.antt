@@ -2,6 +2,8 @@
 -- Assumes nothing.
 use mathlib.Core.Path.{_∙_}
 use native.Mathlib.Omega.{arith}
+use lib.ListN.{take}
+use Rattle.mode.specs.Sets.{tagBytes}
 use Rattle.fips197.specs.Cipher.{cipher}
 use Rattle.sealing.proofs.BeginLaws.{first-tag}
 use borrow.Author.Needs.{needs}
@@ -10,17 +12,17 @@ use Rattle.opening.proofs.forms.open_first.Tie as tie
 
 cover-requires : tie.Need-cover-requires
 cover-requires c κs =
-    let p = c .before .before .before .before .before .before .pre in
+    let p = c .before .before .before .before .before .pre in
     let h = p .1 .1 .1 in
-    (p .0, (p .1 .0, (p .1 .1 .0, (h .0, h .1, omega (arith, p .1 .1 .0 .0, h .2), h .3))))
+    (p .0, (p .1 .0, (p .1 .1 .0, (h .0, omega (arith, p .1 .1 .0 .0, h .1), h .2))))
 
 returns : tie.Need-returns
 returns c =
-    let a = c .before .before .before .before .before .before .before .before .before .before .args in
-    let p = c .before .before .before .before .before .before .before .before .before .before .pre .1 .1 in
+    let a = c .before .before .before .before .before .before .before .before .before .args in
+    let p = c .before .before .before .before .before .before .before .before .before .pre .1 .1 in
     let b = c .before .before .before .cover .ensures in
     let made = c .with-first .ensures in
-    let t = first-tag (cipher (a .key .now)) (a .tag) (a .capacity) (a .nonce .now) (a .header .now) (a .first .now) _ _ (b .1) (b .2) (p .1 .2) (omega (arith, p .0 .0)) (made .1) in
+    let t = first-tag (cipher (a .key .now)) (a .tag) (a .capacity) (a .nonce .now) (take (tagBytes (a .tag)) (a .hash)) (a .first .now) _ _ (b .1) (b .2) (p .1 .1) (omega (arith, p .0 .0)) (made .1) in
     (made .0 ∙ b .0, t .0, t .1, b .3)
 
 pub open-first-spec : {M : Type 1} → statement M
