@@ -22,7 +22,7 @@ use Rattle.mode.specs.Open.Opened.{opened, refused}
 use Rattle.cba.specs.Refusals.{Row, answer, common, SealCall, OpenCall, setTag, sealing, opening, sealRows, sealAnswer, openRows, openAnswer, over, sealLeaves, sealOutput, openLeaves, openOutput}
 use Rattle.cba.specs.Demands.{Passed, FirstChecks, SealRefusals, OpenRefusals}
 use Rattle.cba.proofs.RefusalLaws.{false-leaves, seal-untouched, open-untouched}
-use Rattle.sealing.proofs.TailLaws.{size-of}
+use Rattle.octets.proofs.Parts.{size-of}
 
 -- ---- a known set
 

@@ -11,9 +11,9 @@ use lib.Dec.{eqb}
 use lib.ListN.{length, take, drop, length-append, length-take, length-drop, take-append-drop}
 use lib.Seq.{take-at, take-nil, length-take-le}
 use Rattle.octets.proofs.Parts.{drop-put}
-use Rattle.mode.proofs.FormLaws.{le-or-lt}
 use Rattle.hub_text.specs.Lines.{lengthBefore}
 use Rattle.hub_run.specs.Stream.{State, over, longer, next, after, overlaid, stored, buffer}
+use Rattle.octets.proofs.Tests.{le-or-lt}
 
 pub buffer-append : (st : State) (b s t : List ℕ) → buffer st b (s ++ t) ≡ buffer (after st s) (buffer st b s) t
 unfolding after buffer

@@ -10,10 +10,8 @@ use lib.Dec.{eqb}
 use lib.ListN.{length, take, drop, length-append, length-take, length-drop, take-append-drop, drop-of-length-le}
 use lib.Seq.{take-all, take-at, take-add, drop-drop, length-take-le}
 use mathlib.Core.Logic.{⊎-elim}
-use Rattle.mode.proofs.FormLaws.{le-or-lt}
 use Rattle.hub_answer.proofs.LineLaws.{middle-length, puts-then}
-use Rattle.sealing.proofs.TailLaws.{to-end}
-use Rattle.octets.proofs.Parts.{put-at}
+use Rattle.octets.proofs.Parts.{put-at, to-end}
 use Rattle.hub_text.specs.Lines.{lengthBefore}
 use Rattle.hub_text.specs.Writing.{Puts}
 use Rattle.hub_run.specs.declared.state.Hub.{Hub}
@@ -23,6 +21,7 @@ use Rattle.hub_run.specs.Values.{stateOf, Sound, Goes, Keeps, FeedsLine,
 use Rattle.hub_run.proofs.CuttingLaws.{after-append, output-append, over-stays, kept-more}
 use Rattle.hub_run.proofs.BufferLaws.{buffer-append, over-keeps, end-keeps, piece-kept}
 use Rattle.hub_run.proofs.UsedLaws.{first-all, first-line, goes-on, stops, none-left, line-used}
+use Rattle.octets.proofs.Tests.{le-or-lt}
 
 -- ---- more of the line
 

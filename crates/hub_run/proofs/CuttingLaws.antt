@@ -11,8 +11,7 @@ use lib.Dec.{eqb}
 use lib.ListN.{length, take, replicate}
 use lib.Seq.{take-all, take-at, take-append-le, length-take-le}
 use Rattle.octets.specs.Strings.{eqs}
-use Rattle.octets.proofs.Tests.{eqs-other}
-use Rattle.mode.proofs.FormLaws.{le-or-lt}
+use Rattle.octets.proofs.Tests.{eqs-other, le-or-lt}
 use Rattle.hub_text.specs.Lines.{parse}
 use Rattle.hub_text.specs.Lines.Parsed.{malformed}
 use Rattle.hub_answer.specs.Answers.{acceptedSet, lineFor}

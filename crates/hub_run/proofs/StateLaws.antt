@@ -11,7 +11,6 @@ use lib.Dec.{T, eqb}
 use lib.Seq.{length-take-le}
 use lib.ListN.{length, take, getD, set, replicate}
 use Rattle.octets.specs.Strings.{eqs}
-use Rattle.mode.proofs.FormLaws.{le-or-lt}
 use Rattle.hub_text.specs.Lines.{parse}
 use Rattle.hub_answer.specs.Answers.{acceptedSet, lineFor}
 use Rattle.hub_text.specs.Writing.{Puts}
@@ -19,6 +18,7 @@ use Rattle.hub_run.specs.declared.state.Hub.{Hub}
 use Rattle.hub_run.specs.Whole.{firstLine, wrongFirst}
 use Rattle.hub_run.specs.Stream.{begin, over, counted, ended, endSays, pending}
 use Rattle.hub_run.specs.Values.{stateOf, Below, Sound, Begins, IsOver, IsPending, Goes}
+use Rattle.octets.proofs.Tests.{le-or-lt}
 
 -- ---- the tests
 

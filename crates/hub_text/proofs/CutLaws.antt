@@ -12,10 +12,10 @@ use lib.Seq.{drop-drop, drop-cons}
 use mathlib.Core.Logic.{⊎-elim}
 use native.Mathlib.Nat.{le-antisymm}
 use native.Mathlib.Numerals.{add-one}
-use Rattle.mode.proofs.FormLaws.{le-or-lt}
 use Rattle.hub_text.specs.declared.cut.Cut.{Cut}
 use Rattle.hub_text.specs.Cuts.{noCut, Cuts}
 use Rattle.hub_text.specs.Lines.{joinFirst, wordsOf, lengthBefore, wordEnd, part}
+use Rattle.octets.proofs.Tests.{le-or-lt}
 
 pub before-most : (x : ℕ) (s : List ℕ) → lengthBefore x s ≤ length s
 unfolding lengthBefore

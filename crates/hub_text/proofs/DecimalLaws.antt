@@ -12,9 +12,9 @@ use borrow.Author.Tests.{eq-eqb, ne-eqb, lt-ltb, le-ltb, le-leb, lt-leb, ltb-tru
 use lib.Dec.{eqb, ltb, leb}
 use lib.ListN.{length, take, drop, getD, length-drop, drop-of-length-le}
 use lib.Seq.{drop-cons, take-length}
-use Rattle.mode.proofs.FormLaws.{le-or-lt}
 use Rattle.hub_text.proofs.NumeralLaws.{both, digit}
 use Rattle.hub_text.specs.Numerals.{decimalOf, decimal, isDigit, allDigits, isSetNumber, decimalValue}
+use Rattle.octets.proofs.Tests.{le-or-lt}
 
 -- ---- digits
 

@@ -14,7 +14,7 @@ use lib.Pow.{pow-lt}
 use lib.Seq.{take-all}
 use Rattle.octets.specs.Numbers.{number}
 use Rattle.octets.proofs.Numbers.{number-more}
-use Rattle.mode.proofs.FormLaws.{le-or-lt}
+use Rattle.octets.proofs.Tests.{le-or-lt}
 
 -- ---- the capacity
 

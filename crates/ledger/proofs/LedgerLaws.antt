@@ -12,7 +12,6 @@ use lib.Pow.{pow-lt}
 use lib.Seq.{length-take-le}
 use mathlib.Core.Logic.{⊎-elim}
 use Rattle.octets.specs.Numbers.{number}
-use Rattle.mode.proofs.FormLaws.{le-or-lt}
 use Rattle.cba.specs.declared.sets.Parameters.{Parameters}
 use Rattle.cba.specs.declared.sets.Set.the-variants.{Known}
 use Rattle.cba.specs.Lookup.{lookupOf}
@@ -24,6 +23,7 @@ use Rattle.cba.proofs.AnswerLaws.{not-false, past-row, is-known, its-key, key-m
 use Rattle.cba.proofs.RefusalLaws.{seal-untouched}
 use Rattle.ledger.specs.declared.ledger.Ledger.{Ledger}
 use Rattle.ledger.specs.Ledger.{noLedger, fresh, makeRows, makeAnswer, madeLedger, keyOf, stale, spent, ledgerRows, ledgerAnswer, charged, nextLedger, ledgerOutput, LedgerCall, Ready, LedgerRefusals}
+use Rattle.octets.proofs.Tests.{le-or-lt}
 
 -- ---- making
 

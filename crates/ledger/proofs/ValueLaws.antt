@@ -3,16 +3,12 @@
 use mathlib.Core.Path.{_≡_, ap, _∙_}
 use mathlib.Core.Bool.{true, false}
 use mathlib.Core.List.{List, _++_, append-nil}
-use Prim.Native.Nat.{ℕ, zero, suc, _+_, _-_}
+use Prim.Native.Nat.{ℕ, _+_, _-_}
 use native.Mathlib.Omega.{arith}
 use lib.ListN.{length, drop, replicate, drop-of-length-le}
 use Rattle.ledger.specs.declared.ledger.Ledger.{Ledger}
 use Rattle.ledger.specs.Ledger.{fresh, charged}
-
-drop-replicate : (k n x : ℕ) → drop k (replicate n x) ≡ replicate (n - k) x
-drop-replicate zero n x = ap (λ (m : ℕ). replicate m x) {x = n} {y = n - 0} (omega arith)
-drop-replicate (suc k) zero x = ap (λ (m : ℕ). replicate m x) {x = 0} {y = 0 - suc k} (omega arith)
-drop-replicate (suc k) (suc n) x = drop-replicate k n x ∙ ap (λ (m : ℕ). replicate m x) {x = n - k} {y = suc n - suc k} (omega arith)
+use Rattle.octets.proofs.Strings.{drop-replicate}
 
 pub fresh-key : (set : ℕ) (key put : List ℕ) → put ≡ key ++ drop (length key) (replicate 32 0) →
     record { set = set; key = put; total = 0; begun = false; last = replicate 12 0 } ≡ fresh set key

@@ -1,21 +1,13 @@
 -- The form that opening reads off a ciphertext's length is the form that sealing chose for the message's.
 -- Assumes nothing.
-use mathlib.Core.Path.{_≡_, refl, sym, _∙_}
-use mathlib.Core.Bool.{Bool, true, false}
-use mathlib.Core.Logic.{_⊎_, inl, inr, ⊎-elim}
+use mathlib.Core.Path.{_≡_, sym, _∙_}
+use mathlib.Core.Logic.{_⊎_, ⊎-elim}
 use Prim.Native.Nat.{ℕ, _+_, _-_, _<_, _≤_}
 use native.Mathlib.Omega.{arith}
-use borrow.Author.Tests.{leb-true, leb-false, le-leb, lt-leb, lt-ltb, le-ltb}
-use lib.Dec.{leb}
+use borrow.Author.Tests.{le-leb, lt-leb, lt-ltb, le-ltb}
 use Rattle.mode.specs.Forms.{fullBlocks, lastLength, sealForm, openForm}
 use Rattle.mode.specs.Forms.Form.{short, joined, separate}
-
-pub le-or-lt : (m n : ℕ) → (m ≤ n) ⊎ (n < m)
-le-or-lt m n = go (leb m n) refl
-  where
-    go : (b : Bool) → leb m n ≡ b → (m ≤ n) ⊎ (n < m)
-    go true e = inl (leb-true m n e)
-    go false e = inr (leb-false m n e)
+use Rattle.octets.proofs.Tests.{le-or-lt}
 
 module _ (l t n : ℕ) where
   -- what sealing chooses

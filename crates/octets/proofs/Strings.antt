@@ -3,7 +3,7 @@
 use mathlib.Core.Path.{_≡_, refl, sym, ap, subst, _∙_}
 use mathlib.Core.List.{List, [], _∷_, _++_, append-assoc, append-nil}
 use mathlib.Core.Logic.{⊎-elim}
-use Prim.Native.Nat.{ℕ, zero, suc, _+_, _<_, _≤_, zero-le}
+use Prim.Native.Nat.{ℕ, zero, suc, _+_, _-_, _<_, _≤_, zero-le}
 use native.Mathlib.Nat.{le-of-suc-le-suc, not-suc-le-zero, eq-or-lt-of-le, le-antisymm}
 use native.Mathlib.Numerals.{add-one}
 use native.Mathlib.Omega.{arith}
@@ -115,3 +115,9 @@ table-getD s = table-is (λ k. getD s k 0) (length s) s refl (λ k l. refl)
 -- the first n bytes of a string
 pub table-take : (n : ℕ) (s : List ℕ) → n ≤ length s → table (λ k. getD s k 0) n ≡ take n s
 table-take n s h = table-is (λ k. getD s k 0) n (take n s) (length-take-le n s h) (λ k l. sym (getD-take n s k 0 l))
+
+-- zeros, and others, without their first
+pub drop-replicate : (k n x : ℕ) → drop k (replicate n x) ≡ replicate (n - k) x
+drop-replicate zero n x = ap (λ (m : ℕ). replicate m x) {x = n} {y = n - 0} (omega arith)
+drop-replicate (suc k) zero x = ap (λ (m : ℕ). replicate m x) {x = 0} {y = 0 - suc k} (omega arith)
+drop-replicate (suc k) (suc n) x = drop-replicate k n x ∙ ap (λ (m : ℕ). replicate m x) {x = n - k} {y = suc n - suc k} (omega arith)

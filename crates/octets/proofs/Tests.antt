@@ -3,11 +3,11 @@
 use mathlib.Core.Path.{_≡_, refl, sym, ap₂, subst}
 use mathlib.Core.Bool.{Bool, true, false, _&&_}
 use mathlib.Core.List.{List, [], _∷_}
-use mathlib.Core.Logic.{⊎-elim}
-use Prim.Native.Nat.{ℕ, zero, suc, _<_}
+use mathlib.Core.Logic.{_⊎_, inl, inr, ⊎-elim}
+use Prim.Native.Nat.{ℕ, zero, suc, _<_, _≤_}
 use native.Mathlib.Nat.{le-of-suc-le-suc, not-suc-le-zero, eq-or-lt-of-le}
-use lib.Dec.{T, eqb, eqb→eq}
-use borrow.Author.Tests.{eq-eqb}
+use lib.Dec.{T, eqb, leb, eqb→eq}
+use borrow.Author.Tests.{eq-eqb, leb-true, leb-false}
 use Rattle.octets.specs.Strings.{eqs}
 
 left : (a b : Bool) → T (a && b) → T a
@@ -48,3 +48,12 @@ same f g (suc n) t k h =
     (λ (e : k ≡ n). rw e (eqs→eq (f n) (g n) (left (eqs (f n) (g n)) (agree f g n) t)))
     (λ (l : k < n). same f g n (right (eqs (f n) (g n)) (agree f g n) t) k l)
     (eq-or-lt-of-le (le-of-suc-le-suc h))
+
+-- ---- cases
+
+pub le-or-lt : (m n : ℕ) → (m ≤ n) ⊎ (n < m)
+le-or-lt m n = go (leb m n) refl
+  where
+    go : (b : Bool) → leb m n ≡ b → (m ≤ n) ⊎ (n < m)
+    go true e = inl (leb-true m n e)
+    go false e = inr (leb-false m n e)

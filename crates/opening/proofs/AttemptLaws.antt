@@ -14,8 +14,7 @@ use Rattle.mode.specs.Sets.{tagBytes}
 use Rattle.mode.specs.Offsets.{F, offset, pad, leading, lastBytes, butLast}
 use Rattle.mode.specs.Seal.{checksum, lastBlock, lastOffset, separateTag}
 use Rattle.mode.specs.Open.{Attempt, Tried, verified, after, plainBlocks, fromBlocks, joinedPlain, joinedRest, joinedAttempt, separateAttempt}
-use Rattle.sealing.proofs.PieceLaws.{then}
-use Rattle.sealing.proofs.TailLaws.{to-end, size-of}
+use Rattle.octets.proofs.Parts.{then, to-end, size-of}
 
 -- the part of a string from a place to its end, and the place where it ends without its last t bytes
 pub rest-size : (s : List ℕ) (n : ℕ) → length (take (length s - n) (drop n s)) ≡ length s - n

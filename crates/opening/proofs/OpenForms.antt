@@ -16,9 +16,9 @@ use Rattle.mode.specs.Forms.Form.{short}
 use Rattle.mode.specs.Offsets.{F, pad, leading, lastBytes, butLast}
 use Rattle.mode.specs.Seal.{Δ₀, masked, shortTag, T}
 use Rattle.mode.specs.Open.{Opened, Attempt, Tried, Answered, verified, check, isFalse, messageOf, after, fromBlocks, attempt, openWith}
-use Rattle.sealing.proofs.TailLaws.{to-end, size-of}
 use Rattle.sealing.proofs.SealForms.{Headed, tag-end}
 use Rattle.opening.proofs.AttemptLaws.{after-turn, rest-end}
+use Rattle.octets.proofs.Parts.{to-end, size-of}
 
 -- the blocks before the end of the separate form: a last block of at most t bytes, or one block
 pub long-count : (l t n : ℕ) → t ≤ 16 → l + t < n → 1 ≤ fullBlocks l n → lastLength l n ≤ t → (n - l - t - 1) / 16 ≡ fullBlocks l n - 1

@@ -11,7 +11,7 @@ use Rattle.octets.proofs.Xor.{append-xors, xors-self, length-xors}
 use Rattle.mode.specs.Sets.{tagBytes}
 use Rattle.mode.specs.Offsets.{leading, lastBytes}
 use Rattle.mode.specs.Seal.{R, masked, T}
-use Rattle.sealing.proofs.TailLaws.{size-of}
+use Rattle.octets.proofs.Parts.{size-of}
 
 -- zeros before a string, in two steps
 leading-twice : (n t : ℕ) (C : List ℕ) → length C ≤ t → t ≤ n → leading n C ≡ replicate (n - t) 0 ++ leading t C

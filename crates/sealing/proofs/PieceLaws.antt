@@ -1,16 +1,16 @@
 -- What sealing is made of: a string at the end of a block, one turn of a loop over the full blocks, which opening has too.
 -- Assumes nothing.
 use mathlib.Core.Path.{_≡_, refl, sym, ap, ap₂, _∙_}
-use mathlib.Core.List.{List, _∷_, _++_, append-nil}
+use mathlib.Core.List.{List, _∷_, _++_}
 use Prim.Native.Nat.{ℕ, zero, suc, _+_, _-_, _*_, _<_, _≤_}
 use native.Mathlib.Nat.{le-antisymm}
 use native.Mathlib.Numerals.{add-one}
 use native.Mathlib.Omega.{arith}
-use lib.ListN.{length, take, drop, replicate, length-append, length-take, length-drop, drop-of-length-le}
+use lib.ListN.{length, take, drop, replicate, length-append, length-take, length-drop}
 use lib.Seq.{take-all}
 use Rattle.octets.specs.Xor.{xors}
 use Rattle.octets.specs.Blocks.{block}
-use Rattle.octets.proofs.Parts.{put-at, put-more}
+use Rattle.octets.proofs.Parts.{put-more, put-end}
 use Rattle.mode.specs.Sets.{tagBytes}
 use Rattle.mode.specs.Offsets.{F, offset, leading}
 use Rattle.mode.specs.Seal.{checksum, cipherBlocks}
@@ -25,14 +25,6 @@ tag-fits h = omega arith
 
 pub tag-taken : (τ : ℕ) (e : List ℕ) → τ < 128 → length e ≡ 16 → length (take (tagBytes τ) e) ≡ tagBytes τ
 tag-taken τ e h l = take-size (tagBytes τ) e (omega arith)
-
--- a string put at the end of another
-pub put-end : (out : List ℕ) (at : ℕ) (t last : List ℕ) → at + length t ≡ length out →
-    last ≡ t ++ drop (length t) (take (length out - at) (drop at out)) →
-    take at out ++ (last ++ drop (length out - at) (drop at out)) ≡ take at out ++ t
-put-end out at t last h e =
-    put-at out at t last (omega arith) e
-    ∙ ap (λ (x : List ℕ). take at out ++ x) (rw (drop-of-length-le out {i = at + length t} (omega arith)) (append-nil t))
 
 take-replicate : (k n x : ℕ) → k ≤ n → take k (replicate n x) ≡ replicate k x
 take-replicate zero n x h = refl
@@ -114,15 +106,3 @@ module _ {E : List ℕ → List ℕ} {Δ M d : List ℕ} {σ : ℕ → List ℕ}
         v .sum-now ∙ ap σ e,
         v .so-far ∙ ap (λ (n : ℕ). cipherBlocks E Δ M i ++ drop n d) (v .size) ∙ ap (λ (n : ℕ). cipherBlocks E Δ M n ++ drop (16 * n) d) e,
       )
-
--- A second write directly after a first of n bytes: last is what the callee says of the part that it was lent.
-pub then : (d e out t last : List ℕ) (n j : ℕ) → out ≡ e ++ drop n d → length out ≡ length d → n + j ≤ length d →
-    last ≡ t ++ drop j (take (length out - n) (drop n out)) → length last ≡ length (take (length out - n) (drop n out)) →
-    take n out ++ (last ++ drop (length out - n) (drop n out)) ≡ (e ++ t) ++ drop (n + j) d
-then d e out t last n j w l h p q =
-    let le : length e ≡ n = omega (arith, ap length w, length-append e (drop n d), length-drop n d) in
-    let lp : length (take (length out - n) (drop n out)) ≡ length out - n = simp (length-take, length-drop) (omega arith) in
-    let lt : length t ≡ j = omega (arith, ap length p, length-append t (drop j (take (length out - n) (drop n out))), length-drop j (take (length out - n) (drop n out))) in
-    put-more d e out n t last (w ∙ ap (λ (m : ℕ). e ++ drop m d) (sym le)) le (omega arith)
-    (p ∙ ap (λ (m : ℕ). t ++ drop m (take (length out - n) (drop n out))) (sym lt))
-    ∙ ap (λ (m : ℕ). (e ++ t) ++ drop m d) (length-append e t ∙ ap₂ _+_ le lt)

@@ -12,9 +12,9 @@ use Rattle.mode.specs.Forms.{Form, sealForm}
 use Rattle.mode.specs.Forms.Form.{short, joined, separate}
 use Rattle.mode.specs.Offsets.{F, pad, leading}
 use Rattle.mode.specs.Seal.{Δ₀, masked, shortTag, T, joinedTail, separateTail, sealAs, sealWith}
-use Rattle.sealing.proofs.PieceLaws.{then, take-size}
-use Rattle.sealing.proofs.TailLaws.{to-end}
+use Rattle.sealing.proofs.PieceLaws.{take-size}
 use Rattle.sealing.proofs.BeginLaws.{first-taken}
+use Rattle.octets.proofs.Parts.{then, to-end}
 
 -- the parts that the tails are lent
 pub part-sizes : (m whole : List ℕ) (l t : ℕ) → length whole ≡ 16 → t ≤ 16 →

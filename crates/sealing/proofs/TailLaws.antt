@@ -13,15 +13,7 @@ use Rattle.octets.proofs.Xor.{xors-comm, append-xors}
 use Rattle.mode.specs.Sets.{tagBytes}
 use Rattle.mode.specs.Offsets.{F, offset, pad, leading}
 use Rattle.mode.specs.Seal.{checksum, cipherBlocks, joinedBlock, joinedLast, joinedEnd, joinedTail, lastBlock, lastOffset, separateTag, separateTail}
-use Rattle.sealing.proofs.PieceLaws.{then}
-
--- the part of a slice from a place to its end
-pub to-end : (s : List ℕ) (n : ℕ) → take (length s - n) (drop n s) ≡ drop n s
-to-end s n = take-all (length s - n) (drop n s) (simp length-drop (omega arith))
-
--- a first write of n bytes has n bytes
-pub size-of : (d e out : List ℕ) (n : ℕ) → out ≡ e ++ drop n d → length out ≡ length d → n ≤ length d → length e ≡ n
-size-of d e out n w l h = omega (arith, ap length w, length-append e (drop n d), length-drop n d)
+use Rattle.octets.proofs.Parts.{then, to-end, size-of}
 
 module _ (E : List ℕ → List ℕ) where
   -- M_m and T masked one after the other

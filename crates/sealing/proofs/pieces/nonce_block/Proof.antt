@@ -4,8 +4,8 @@ use mathlib.Core.Path.{ap}
 use mathlib.Core.List.{_∷_}
 use Prim.Native.Nat.{ℕ, _+_}
 use lib.ListN.{replicate}
+use Rattle.octets.proofs.Parts.{put-end}
 use borrow.Author.Needs.{needs}
-use Rattle.sealing.proofs.PieceLaws.{put-end}
 use Rattle.sealing.proofs.pieces.nonce_block.Statement.{statement}
 use Rattle.sealing.proofs.pieces.nonce_block.Tie as tie
 
