@@ -12,8 +12,8 @@ use Rattle.octets.specs.Strings.{table}
 use Rattle.octets.proofs.Strings.{length-table}
 use Rattle.octets.proofs.Parts.{put-more}
 use Rattle.field.specs.SBox.{invSBox}
-use Rattle.tables.specs.Round.{entry, inverseEntry, entries, tables}
-use Rattle.tables.proofs.RoundLaws.{length-entry, length-inverseEntry, length-entries}
+use Rattle.aes_tables.specs.Round.{entry, inverseEntry, entries, tables}
+use Rattle.aes_tables.proofs.RoundLaws.{length-entry, length-inverseEntry, length-entries}
 use Rattle.fips197.specs.Schedule.{isKey, keyExpansion}
 use Rattle.aes.specs.Tables.{Entries}
 use Rattle.aes.proofs.TableLaws.{table-entries}

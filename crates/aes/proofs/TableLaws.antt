@@ -13,15 +13,15 @@ use Rattle.octets.specs.Blocks.{block}
 use Rattle.octets.proofs.Xor.{xor-assoc}
 use Rattle.field.specs.Field.{mul, dot}
 use Rattle.field.specs.SBox.{sBox, invSBox}
-use Rattle.tables.specs.Round.{multiples, entry, inverseEntry, entries}
+use Rattle.aes_tables.specs.Round.{multiples, entry, inverseEntry, entries}
 use Rattle.field.proofs.Rules.{sBox-byte}
 use Rattle.field.proofs.Columns.{mul-one}
-use Rattle.tables.proofs.RoundLaws.{length-entries, getD-entries}
+use Rattle.aes_tables.proofs.RoundLaws.{length-entries, getD-entries}
 use Rattle.fips197.specs.State.{at, state}
 use Rattle.fips197.specs.Steps.{subBytes, shiftRows, timesMatrix, mixColumns, addRoundKey, invSubBytes, invShiftRows, invMixColumns}
-use Rattle.key_schedule.specs.declared.words.Words.{Words}
-use Rattle.key_schedule.specs.Words.{bytesOf, blockOf, wordAt, lookedUp}
-use Rattle.key_schedule.proofs.WordLaws.{four, xor-bytes, word-bytes, looked-up}
+use Rattle.aes_schedule.specs.declared.words.Words.{Words}
+use Rattle.aes_schedule.specs.Words.{bytesOf, blockOf, wordAt, lookedUp}
+use Rattle.aes_schedule.proofs.WordLaws.{four, xor-bytes, word-bytes, looked-up}
 use Rattle.aes.specs.Tables.{addedUp, timesColumn, Entries}
 
 -- ---- AddRoundKey

@@ -6,7 +6,7 @@ use Prim.Native.Nat.{ℕ, _-_}
 use lib.ListN.{length, replicate}
 use Rattle.octets.specs.Strings.{table}
 use Rattle.field.specs.SBox.{invSBox}
-use Rattle.tables.specs.Round.{tables}
+use Rattle.aes_tables.specs.Round.{tables}
 use Rattle.fips197.specs.Schedule.{isKey, keyExpansion}
 
 -- a context with no key: the round tables, and zeros

@@ -6,7 +6,7 @@ use Prim.Native.Nat.{ℕ, _+_, _*_, _<_}
 use lib.ListN.{length, getD}
 use Rattle.octets.specs.Xor.{xors}
 use Rattle.field.specs.Field.{dot}
-use Rattle.key_schedule.specs.Words.{wordAt}
+use Rattle.aes_schedule.specs.Words.{wordAt}
 
 -- the words for four bytes in a table of entries of eight bytes, added: each from one byte less of its entry on
 abbrev pub addedUp : List ℕ → ℕ → ℕ → ℕ → ℕ → List ℕ

@@ -6,19 +6,19 @@ use crate::context::rounds_of;
 use crate::table::add_key;
 use crate::table::mix;
 use crate::table::shift;
-use key_schedule::Words;
-use key_schedule::read;
-use key_schedule::write;
+use aes_schedule::Words;
+use aes_schedule::read;
+use aes_schedule::write;
 ghost use mathlib.Core.Path.{_≡_};
 ghost use mathlib.Core.Bool.{true};
 ghost use Prim.Native.Nat.{_*_, _≤_, _<_, suc};
 ghost use lib.ListN.{length};
 ghost use Rattle.octets.specs.Blocks.{block};
-ghost use Rattle.tables.specs.Round.{entry};
+ghost use Rattle.aes_tables.specs.Round.{entry};
 ghost use Rattle.fips197.specs.Schedule.{isKey, keyExpansion};
 ghost use Rattle.fips197.specs.Cipher.{fullRound, rounds, cipher, cipherOver, keyRounds};
 ghost use Rattle.aes.specs.Context.{contextOf};
-ghost use Rattle.key_schedule.specs.Words.{blockOf};
+ghost use Rattle.aes_schedule.specs.Words.{blockOf};
 ghost use Rattle.aes.specs.Tables.{Entries};
 
 // A full round, with round key n.

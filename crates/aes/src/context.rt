@@ -1,13 +1,13 @@
 // What a call that uses a key holds of it: the tables that the rounds read and the round keys, in
 // one array that the caller owns and lends.
-use key_schedule::expand;
+use aes_schedule::expand;
 ghost use mathlib.Core.Path.{_≡_};
 ghost use mathlib.Core.Bool.{true};
 ghost use Prim.Native.Nat.{_*_, _≤_, suc};
 ghost use lib.ListN.{length};
 ghost use Rattle.octets.specs.Strings.{table};
 ghost use Rattle.field.specs.SBox.{invSBox};
-ghost use Rattle.tables.specs.Round.{entry, inverseEntry};
+ghost use Rattle.aes_tables.specs.Round.{entry, inverseEntry};
 ghost use Rattle.fips197.specs.Schedule.{isKey, keyExpansion};
 ghost use Rattle.fips197.specs.Cipher.{keyRounds};
 ghost use Rattle.aes.specs.Context.{blankContext, contextOf, keyed};
@@ -19,7 +19,7 @@ pub type Context = [u8; 4592];
 pub fn blank() -> Context
     ensures { λ r. ⌜ r ≡ blankContext ⌝ }
 {
-    tables::round_tables()
+    aes_tables::round_tables()
 }
 
 fn is_key(key: &[u8]) -> bool

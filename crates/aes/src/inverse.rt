@@ -6,22 +6,22 @@ use crate::context::round_keys;
 use crate::context::rounds_of;
 use crate::table::add_key;
 use crate::table::mixed;
-use key_schedule::Words;
-use key_schedule::look_up;
-use key_schedule::read;
-use key_schedule::write;
+use aes_schedule::Words;
+use aes_schedule::look_up;
+use aes_schedule::read;
+use aes_schedule::write;
 ghost use mathlib.Core.Path.{_≡_};
 ghost use mathlib.Core.Bool.{true};
 ghost use Prim.Native.Nat.{_-_, _*_, _≤_, suc};
 ghost use lib.ListN.{length};
 ghost use Rattle.octets.specs.Strings.{table};
 ghost use Rattle.field.specs.SBox.{invSBox};
-ghost use Rattle.tables.specs.Round.{inverseEntry};
+ghost use Rattle.aes_tables.specs.Round.{inverseEntry};
 ghost use Rattle.fips197.specs.Schedule.{isKey};
 ghost use Rattle.fips197.specs.Steps.{invSubBytes, invShiftRows, invMixColumns};
 ghost use Rattle.fips197.specs.Cipher.{fullInvRound, invRounds, invCipher, invCipherOver};
 ghost use Rattle.aes.specs.Context.{contextOf};
-ghost use Rattle.key_schedule.specs.Words.{blockOf};
+ghost use Rattle.aes_schedule.specs.Words.{blockOf};
 ghost use Rattle.aes.specs.Tables.{Entries};
 
 // InvShiftRows, InvSubBytes.

@@ -1,19 +1,19 @@
 // The steps of a round by table, on words.
-use key_schedule::Words;
-use key_schedule::first;
-use key_schedule::fourth;
-use key_schedule::join;
-use key_schedule::second;
-use key_schedule::third;
-use key_schedule::word_at;
+use aes_schedule::Words;
+use aes_schedule::first;
+use aes_schedule::fourth;
+use aes_schedule::join;
+use aes_schedule::second;
+use aes_schedule::third;
+use aes_schedule::word_at;
 ghost use mathlib.Core.Path.{_≡_};
 ghost use mathlib.Core.List.{[], _∷_};
 ghost use Prim.Native.Nat.{_*_, _/_, _%_, _≤_, suc};
 ghost use lib.ListN.{length};
 ghost use Rattle.field.specs.SBox.{sBox};
-ghost use Rattle.tables.specs.Round.{entry};
+ghost use Rattle.aes_tables.specs.Round.{entry};
 ghost use Rattle.fips197.specs.Steps.{subBytes, shiftRows, mixColumns, addRoundKey};
-ghost use Rattle.key_schedule.specs.Words.{bytesOf, blockOf};
+ghost use Rattle.aes_schedule.specs.Words.{bytesOf, blockOf};
 ghost use Rattle.aes.specs.Tables.{addedUp, Entries};
 
 // A column under a matrix, by its table: its rows come from four words.

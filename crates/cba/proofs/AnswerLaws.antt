@@ -14,11 +14,11 @@ use Rattle.fips197.specs.Cipher.{cipher, invCipher}
 use Rattle.cba.specs.declared.sets.Parameters.{Parameters}
 use Rattle.cba.specs.declared.sets.Set.{Set}
 use Rattle.cba.specs.declared.sets.Set.the-variants.{Known, Unknown}
-use Rattle.mode.specs.Sets.{isSet, column, capacity, keyBytes, tagBytes, ell, Fits}
+use Rattle.cba_mode.specs.Sets.{isSet, column, capacity, keyBytes, tagBytes, ell, Fits}
 use Rattle.cba.specs.Lookup.{lookupOf, valuesOf}
-use Rattle.mode.specs.Seal.{ENC}
-use Rattle.mode.specs.Open.{Opened, Answered, isFalse, messageOf, DEC}
-use Rattle.mode.specs.Open.Opened.{opened, refused}
+use Rattle.cba_mode.specs.Seal.{ENC}
+use Rattle.cba_mode.specs.Open.{Opened, Answered, isFalse, messageOf, DEC}
+use Rattle.cba_mode.specs.Open.Opened.{opened, refused}
 use Rattle.cba.specs.Refusals.{Row, answer, common, SealCall, OpenCall, setTag, sealing, opening, sealRows, sealAnswer, openRows, openAnswer, over, sealLeaves, sealOutput, openLeaves, openOutput}
 use Rattle.cba.specs.Demands.{Passed, FirstChecks, SealRefusals, OpenRefusals}
 use Rattle.cba.proofs.RefusalLaws.{false-leaves, seal-untouched, open-untouched}

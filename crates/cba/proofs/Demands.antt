@@ -15,12 +15,12 @@ use Rattle.octets.specs.Count.{count}
 use Rattle.octets.proofs.Count.{count-scheme}
 use Rattle.fips197.specs.Cipher.{cipher, invCipher}
 use Rattle.fips197.proofs.Inverses.{inverses}
-use Rattle.mode.specs.Sets.{isSet, keyBytes, tagBits, capacity}
-use Rattle.mode.specs.Data.{tagOfData}
-use Rattle.mode.specs.Open.{Opened, isFalse, messageOf, DEC}
-use Rattle.mode.specs.Open.Opened.{opened, refused}
-use Rattle.mode.specs.RoundTrip.{BlockCipher, RoundTrip}
-use Rattle.mode.proofs.RoundTrip.{data-trip, refused-opens}
+use Rattle.cba_mode.specs.Sets.{isSet, keyBytes, tagBits, capacity}
+use Rattle.cba_mode.specs.Data.{tagOfData}
+use Rattle.cba_mode.specs.Open.{Opened, isFalse, messageOf, DEC}
+use Rattle.cba_mode.specs.Open.Opened.{opened, refused}
+use Rattle.cba_mode.specs.RoundTrip.{BlockCipher, RoundTrip}
+use Rattle.cba_mode.proofs.RoundTrip.{data-trip, refused-opens}
 use Rattle.cba.specs.Refusals.{setTag, sealing, opening, sealAnswer, openAnswer, over, sealLeaves, sealOutput, openLeaves, openOutput, OpenCall}
 use Rattle.cba.specs.Demands.{Passed, AllBytes, Demand1, Demand2, Given, Message, Decided, Demand3, Speaks}
 use Rattle.cba.proofs.AnswerLaws.{set-fits, set-key, seal-refusals, open-refusals, seal-passed, open-passed}

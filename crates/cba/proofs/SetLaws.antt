@@ -11,7 +11,7 @@ use borrow.Author.Tests.{lt-leb, le-leb}
 use Rattle.octets.proofs.Tests.{agree, same}
 use Rattle.cba.specs.declared.sets.Parameters.{Parameters}
 use Rattle.cba.specs.declared.sets.Set.the-variants.{Known, Unknown}
-use Rattle.mode.specs.Sets.{isSet, column}
+use Rattle.cba_mode.specs.Sets.{isSet, column}
 use Rattle.cba.specs.Refusals.{answer}
 use Rattle.cba.specs.Lookup.{lookupOf, numberOf, valuesOf, Lookups}
 

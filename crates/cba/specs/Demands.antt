@@ -11,10 +11,10 @@ use lib.ListN.{length, take, drop, replicate}
 use Rattle.octets.specs.Strings.{Bytes, Octets}
 use Rattle.octets.specs.Count.{count}
 use Rattle.fips197.specs.Cipher.{cipher, invCipher}
-use Rattle.mode.specs.Sets.{isSet, keyBytes, tagBits, capacity}
-use Rattle.mode.specs.Seal.{ENC}
-use Rattle.mode.specs.Open.{DEC}
-use Rattle.mode.specs.Open.Opened.{opened, refused}
+use Rattle.cba_mode.specs.Sets.{isSet, keyBytes, tagBits, capacity}
+use Rattle.cba_mode.specs.Seal.{ENC}
+use Rattle.cba_mode.specs.Open.{DEC}
+use Rattle.cba_mode.specs.Open.Opened.{opened, refused}
 use Rattle.cba.specs.Refusals.{setTag, sealing, opening, openAnswer, SealCall, OpenCall}
 
 -- ---- Demand 1: every bad input refused by its own number, in a fixed order, every other call accepted, and what each refusal leaves

@@ -6,7 +6,7 @@ use mathlib.Core.List.{List, [], _∷_}
 use Prim.Native.Nat.{ℕ}
 use Rattle.cba.specs.declared.sets.Set.{Set}
 use Rattle.cba.specs.declared.sets.Set.the-variants.{Known, Unknown}
-use Rattle.mode.specs.Sets.{isSet, column}
+use Rattle.cba_mode.specs.Sets.{isSet, column}
 use Rattle.cba.specs.Refusals.{answer, setRow}
 
 -- a set's number yields its key bits, τ and b; any other yields nothing

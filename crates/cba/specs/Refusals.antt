@@ -7,9 +7,9 @@ use Prim.Native.Nat.{ℕ, _+_, _-_}
 use lib.Dec.{eqb, ltb}
 use lib.ListN.{length, drop, replicate}
 use Rattle.fips197.specs.Cipher.{cipher, invCipher}
-use Rattle.mode.specs.Sets.{isSet, keyBytes, tagBits, tagBytes, capacity}
-use Rattle.mode.specs.Seal.{ENC}
-use Rattle.mode.specs.Open.{Opened, isFalse, messageOf, DEC}
+use Rattle.cba_mode.specs.Sets.{isSet, keyBytes, tagBits, tagBytes, capacity}
+use Rattle.cba_mode.specs.Seal.{ENC}
+use Rattle.cba_mode.specs.Open.{Opened, isFalse, messageOf, DEC}
 
 -- a row of the table: a refusal's number, and whether it applies
 pub record Row : Type 0 where

@@ -2,19 +2,19 @@
 use crate::sets::Parameters;
 use crate::sets::Set;
 use crate::sets::lookup;
-use mode_steps::data_hash;
-use opening::open_text;
-use sealing::tag_bytes;
+use cba_opening::open_text;
+use cba_sealing::tag_bytes;
+use cba_steps::data_hash;
 ghost use mathlib.Core.Path.{_≡_};
 ghost use mathlib.Core.Bool.{true};
 ghost use Prim.Native.Nat.{_+_, _-_, _≤_};
 ghost use lib.ListN.{length};
 ghost use Rattle.fips197.specs.Schedule.{isKey};
 ghost use Rattle.fips197.specs.Cipher.{cipher, invCipher};
-ghost use Rattle.mode.specs.Sets.{Fits, tagBytes};
+ghost use Rattle.cba_mode.specs.Sets.{Fits, tagBytes};
 ghost use Rattle.cba.specs.declared.sets.Set.the-variants.{Known};
 ghost use Rattle.cba.specs.Lookup.{lookupOf};
-ghost use Rattle.mode.specs.Open.{DEC, Answered};
+ghost use Rattle.cba_mode.specs.Open.{DEC, Answered};
 ghost use Rattle.cba.specs.Refusals.{OpenCall};
 
 // The opening of an input that no check before it refuses: the key schedule, once, the

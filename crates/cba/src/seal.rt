@@ -2,9 +2,9 @@
 use crate::sets::Parameters;
 use crate::sets::Set;
 use crate::sets::lookup;
-use mode_steps::data_hash;
-use sealing::seal_message;
-use sealing::tag_bytes;
+use cba_sealing::seal_message;
+use cba_sealing::tag_bytes;
+use cba_steps::data_hash;
 ghost use mathlib.Core.Path.{_≡_};
 ghost use mathlib.Core.Bool.{true};
 ghost use mathlib.Core.List.{_++_};
@@ -12,10 +12,10 @@ ghost use Prim.Native.Nat.{_+_, _≤_};
 ghost use lib.ListN.{length, drop};
 ghost use Rattle.fips197.specs.Schedule.{isKey};
 ghost use Rattle.fips197.specs.Cipher.{cipher};
-ghost use Rattle.mode.specs.Sets.{Fits, tagBytes};
+ghost use Rattle.cba_mode.specs.Sets.{Fits, tagBytes};
 ghost use Rattle.cba.specs.declared.sets.Set.the-variants.{Known};
 ghost use Rattle.cba.specs.Lookup.{lookupOf};
-ghost use Rattle.mode.specs.Seal.{ENC};
+ghost use Rattle.cba_mode.specs.Seal.{ENC};
 ghost use Rattle.cba.specs.Refusals.{SealCall};
 
 // The sealing of an input that no check refuses: the key schedule, once, the walk over

@@ -31,7 +31,7 @@ fn print_data_tag(set: u8, key: &[u8], header: &[u8]) {
     let mut ctx = aes::blank();
     if aes::set_key(key, &mut ctx) {
         print_tag(
-            mode_steps::data_hash(key, &ctx, p.tag, p.capacity, header),
+            cba_steps::data_hash(key, &ctx, p.tag, p.capacity, header),
             p.tag,
         );
     }

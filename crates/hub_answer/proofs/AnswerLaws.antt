@@ -8,8 +8,8 @@ use native.Mathlib.Omega.{arith}
 use borrow.Author.Tests.{eq-eqb, ne-eqb, lt-leb, leb-true, le-ltb, ltb-true, ltb-false}
 use lib.Dec.{T, eqb, leb, ltb}
 use lib.ListN.{length, take, length-take, length-drop, length-replicate}
-use Rattle.mode.specs.Sets.{isSet}
-use Rattle.mode.specs.Open.{messageOf}
+use Rattle.cba_mode.specs.Sets.{isSet}
+use Rattle.cba_mode.specs.Open.{messageOf}
 use Rattle.cba.specs.Refusals.{Row, answer, setTag, opening, sealRows, openRows, sealAnswer, openAnswer, SealCall, OpenCall}
 use Rattle.cba.specs.Demands.{Passed, AllBytes}
 use Rattle.cba.proofs.AnswerLaws.{set-fits, seal-passed, open-passed, open-refusals}

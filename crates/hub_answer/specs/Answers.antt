@@ -5,7 +5,7 @@ use mathlib.Core.List.{List, [], _∷_, _++_}
 use Prim.Native.Nat.{ℕ, _+_}
 use lib.Dec.{eqb}
 use lib.ListN.{length, replicate}
-use Rattle.mode.specs.Open.{messageOf}
+use Rattle.cba_mode.specs.Open.{messageOf}
 use Rattle.cba.specs.Refusals.{sealing, opening, sealAnswer, openAnswer}
 use Rattle.hub_text.specs.Numerals.{decimal, shown}
 use Rattle.hub_text.specs.Lines.{Request, Parsed, parse}

@@ -5,7 +5,7 @@ use mathlib.Core.Bool.{Bool, true, false, cond}
 use mathlib.Core.List.{List}
 use Prim.Native.Nat.{ℕ, _+_, _-_, _≤_}
 use lib.ListN.{length, take}
-use Rattle.mode.specs.Sets.{isSet}
+use Rattle.cba_mode.specs.Sets.{isSet}
 use Rattle.cba.specs.Refusals.{setTag, SealCall, OpenCall}
 use Rattle.hub_text.specs.declared.request.Asked.{Asked}
 use Rattle.hub_answer.specs.declared.answer.Reply.{Reply}

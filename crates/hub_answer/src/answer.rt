@@ -7,7 +7,7 @@ ghost use mathlib.Core.Path.{_≡_};
 ghost use mathlib.Core.Bool.{true};
 ghost use Prim.Native.Nat.{_≤_, _<_};
 ghost use lib.ListN.{length};
-ghost use Rattle.mode.specs.Sets.{isSet};
+ghost use Rattle.cba_mode.specs.Sets.{isSet};
 ghost use Rattle.cba.specs.Refusals.{setTag};
 ghost use Rattle.hub_text.specs.Lines.{parse};
 ghost use Rattle.hub_text.specs.Requests.{requestOf};
@@ -49,7 +49,7 @@ fn set_tag(set: u32) -> usize
     let cba::Set::Known(p) = cba::lookup(set) else {
         return 0;
     };
-    sealing::tag_bytes(p.tag)
+    cba_sealing::tag_bytes(p.tag)
 }
 
 // How many bytes an accepted request's result has, by how many its text has.

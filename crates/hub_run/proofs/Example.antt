@@ -3,7 +3,7 @@
 use mathlib.Core.Path.{_≡_, refl}
 use mathlib.Core.List.{List, [], _∷_, _++_}
 use Prim.Native.Nat.{ℕ}
-use Rattle.mode.specs.Sets.{isSet, column}
+use Rattle.cba_mode.specs.Sets.{isSet, column}
 use Rattle.cba.specs.Refusals.{answer, sealRows, openRows, sealAnswer, openAnswer}
 use Rattle.hub_text.specs.Numerals.{decimalOf, isDigit, allDigits, isSetNumber, decimalValue, hexDigit, hex, shown, isHexDigit, hexValue, areHexPairs, unhex, isValue, valueOf}
 use Rattle.hub_text.specs.Lines.{joinFirst, wordsOf, fromSix, fromWords, parse}

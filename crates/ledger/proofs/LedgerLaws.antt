@@ -15,8 +15,8 @@ use Rattle.octets.specs.Numbers.{number}
 use Rattle.cba.specs.declared.sets.Parameters.{Parameters}
 use Rattle.cba.specs.declared.sets.Set.the-variants.{Known}
 use Rattle.cba.specs.Lookup.{lookupOf}
-use Rattle.mode.specs.Sets.{isSet, keyBytes, capacity}
-use Rattle.mode.specs.Charge.{charge}
+use Rattle.cba_mode.specs.Sets.{isSet, keyBytes, capacity}
+use Rattle.cba_mode.specs.Charge.{charge}
 use Rattle.cba.specs.Refusals.{answer, setTag, sealing, sealAnswer, sealLeaves, sealOutput, SealCall}
 use Rattle.cba.specs.Demands.{Passed}
 use Rattle.cba.proofs.AnswerLaws.{not-false, past-row, is-known, its-key, key-most, set-fits, seal-refusals}

@@ -11,8 +11,8 @@ use lib.Dec.{eqb, ltb, leb}
 use lib.ListN.{length, replicate}
 use Rattle.octets.specs.Numbers.{number, digits}
 use Rattle.octets.proofs.Numbers.{length-digits, number-digits}
-use Rattle.mode.specs.Sets.{isSet, capacity, column}
-use Rattle.mode.specs.Charge.{charge}
+use Rattle.cba_mode.specs.Sets.{isSet, capacity, column}
+use Rattle.cba_mode.specs.Charge.{charge}
 use Rattle.cba.specs.Refusals.{setTag}
 use Rattle.cba.proofs.AnswerLaws.{key-most}
 use Rattle.ledger.specs.declared.ledger.Ledger.{Ledger}

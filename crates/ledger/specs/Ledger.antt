@@ -7,8 +7,8 @@ use Prim.Native.Nat.{ℕ, _+_, _-_, _^_, _<_, _≤_}
 use lib.Dec.{eqb, ltb, leb}
 use lib.ListN.{length, take, replicate}
 use Rattle.octets.specs.Numbers.{number}
-use Rattle.mode.specs.Sets.{isSet, keyBytes, capacity}
-use Rattle.mode.specs.Charge.{charge}
+use Rattle.cba_mode.specs.Sets.{isSet, keyBytes, capacity}
+use Rattle.cba_mode.specs.Charge.{charge}
 use Rattle.cba.specs.Refusals.{Row, answer, setRow, setTag, sealing, sealLeaves}
 use Rattle.ledger.specs.declared.ledger.Ledger.{Ledger}
 

@@ -7,8 +7,8 @@ use Prim.Native.Nat.{ℕ, zero, suc, _+_, _^_, _<_, _≤_}
 use lib.Dec.{eqb}
 use lib.ListN.{length}
 use Rattle.octets.specs.Numbers.{number, digits}
-use Rattle.mode.specs.Sets.{capacity}
-use Rattle.mode.specs.Charge.{charge}
+use Rattle.cba_mode.specs.Sets.{capacity}
+use Rattle.cba_mode.specs.Charge.{charge}
 use Rattle.ledger.specs.declared.ledger.Ledger.{Ledger}
 use Rattle.cba.specs.Refusals.{SealCall}
 use Rattle.ledger.specs.Ledger.{makeAnswer, madeLedger, keyOf, ledgerAnswer, nextLedger, ledgerOutput}

@@ -5,7 +5,7 @@ ghost use Prim.Native.Nat.{_+_, _^_, _≤_};
 ghost use lib.Dec.{ltb};
 ghost use lib.ListN.{length};
 ghost use Rattle.octets.specs.Numbers.{number};
-ghost use Rattle.mode.specs.Charge.{charge};
+ghost use Rattle.cba_mode.specs.Charge.{charge};
 
 // Whether a nonce is above another, as big-endian numbers.
 pub fn above(nonce: &[u8], last: &[u8]) -> bool

@@ -5,7 +5,7 @@ use crate::checks::fits;
 ghost use mathlib.Core.Path.{_≡_};
 ghost use Prim.Native.Nat.{_+_, _-_, _^_, _≤_, _<_};
 ghost use lib.ListN.{length};
-ghost use Rattle.mode.specs.Charge.{charge};
+ghost use Rattle.cba_mode.specs.Charge.{charge};
 ghost use Rattle.cba.specs.declared.sets.Set.the-variants.{Known};
 ghost use Rattle.cba.specs.Lookup.{lookupOf};
 ghost use Rattle.ledger.specs.Ledger.{noLedger, fresh, makeAnswer, madeLedger, stale, charged, ledgerAnswer, LedgerCall};
@@ -116,7 +116,7 @@ fn checked(
     if text.len() > 65536 {
         return 5;
     }
-    if room < text.len() + sealing::tag_bytes(p.tag) {
+    if room < text.len() + cba_sealing::tag_bytes(p.tag) {
         return 7;
     }
     if is_stale(l, nonce) {

@@ -8,7 +8,7 @@ use native.Mathlib.Nat.{le-antisymm}
 use borrow.Author.Needs.{needs}
 use Rattle.fips197.specs.Steps.{addRoundKey}
 use Rattle.fips197.specs.Cipher.{rounds}
-use Rattle.key_schedule.specs.Words.{blockOf}
+use Rattle.aes_schedule.specs.Words.{blockOf}
 use Rattle.fips197.proofs.CipherLaws.{rounds-more}
 use Rattle.aes.proofs.cipher.full_rounds.Statement.{statement}
 use Rattle.aes.proofs.cipher.full_rounds.Tie as tie

@@ -8,7 +8,7 @@ use native.Mathlib.Nat.{le-antisymm}
 use borrow.Author.Needs.{needs}
 use Rattle.fips197.specs.Steps.{addRoundKey}
 use Rattle.fips197.specs.Cipher.{invRounds}
-use Rattle.key_schedule.specs.Words.{blockOf}
+use Rattle.aes_schedule.specs.Words.{blockOf}
 use Rattle.fips197.proofs.CipherLaws.{invRounds-more}
 use Rattle.aes.proofs.inverse.full_inv_rounds.Statement.{statement}
 use Rattle.aes.proofs.inverse.full_inv_rounds.Tie as tie

@@ -5,8 +5,8 @@ use mathlib.Core.List.{List}
 use Prim.Native.Nat.{ℕ, _+_, _*_}
 use borrow.Author.Needs.{needs}
 use Rattle.octets.specs.Xor.{xors}
-use Rattle.key_schedule.specs.Words.{wordAt}
-use Rattle.key_schedule.proofs.WordLaws.{xor-bytes}
+use Rattle.aes_schedule.specs.Words.{wordAt}
+use Rattle.aes_schedule.proofs.WordLaws.{xor-bytes}
 use Rattle.aes.proofs.table.mixed.Statement.{statement}
 use Rattle.aes.proofs.table.mixed.Tie as tie
 

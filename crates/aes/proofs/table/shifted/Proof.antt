@@ -2,7 +2,7 @@
 -- Assumes nothing.
 use borrow.Author.Needs.{needs}
 use mathlib.Core.Path.{_∙_}
-use Rattle.key_schedule.proofs.WordLaws.{four}
+use Rattle.aes_schedule.proofs.WordLaws.{four}
 use Rattle.aes.proofs.TableLaws.{entry-second}
 use Rattle.aes.proofs.table.shifted.Statement.{statement}
 use Rattle.aes.proofs.table.shifted.Tie as tie

@@ -6,9 +6,9 @@ use Prim.Native.Nat.{ℕ, _-_}
 use lib.ListN.{length, take}
 use borrow.Author.Needs.{needs}
 use Rattle.fips197.specs.Cipher.{cipher, invCipher}
-use Rattle.mode.specs.Sets.{tagBytes}
-use Rattle.mode.specs.Data.{tagOfData}
-use Rattle.mode.specs.Open.{Answered, openWith}
+use Rattle.cba_mode.specs.Sets.{tagBytes}
+use Rattle.cba_mode.specs.Data.{tagOfData}
+use Rattle.cba_mode.specs.Open.{Answered, openWith}
 use Rattle.cba.proofs.open.open_checked.Statement.{statement}
 use Rattle.cba.proofs.open.open_checked.Tie as tie
 

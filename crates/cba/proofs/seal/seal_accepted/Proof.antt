@@ -6,9 +6,9 @@ use Prim.Native.Nat.{ℕ, _+_}
 use lib.ListN.{length, take, drop}
 use borrow.Author.Needs.{needs}
 use Rattle.fips197.specs.Cipher.{cipher}
-use Rattle.mode.specs.Sets.{tagBytes}
-use Rattle.mode.specs.Data.{tagOfData}
-use Rattle.mode.specs.Seal.{sealWith}
+use Rattle.cba_mode.specs.Sets.{tagBytes}
+use Rattle.cba_mode.specs.Data.{tagOfData}
+use Rattle.cba_mode.specs.Seal.{sealWith}
 use Rattle.cba.proofs.seal.seal_accepted.Statement.{statement}
 use Rattle.cba.proofs.seal.seal_accepted.Tie as tie
 

@@ -1,7 +1,7 @@
 -- `cba::sets::lookup` meets its contract: the constant rows are those of the definition.
 -- Assumes nothing.
 use borrow.Author.Needs.{needs}
-use Rattle.mode.specs.Sets.{column}
+use Rattle.cba_mode.specs.Sets.{column}
 use Rattle.cba.proofs.SetLaws.{below-set, above-set, known, unknown}
 use Rattle.cba.proofs.sets.lookup.Statement.{statement}
 use Rattle.cba.proofs.sets.lookup.Tie as tie

@@ -2,7 +2,7 @@
 -- Assumes nothing.
 use mathlib.Core.Path.{refl}
 use borrow.Author.Needs.{needs}
-use Rattle.mode.specs.Charge.{charge}
+use Rattle.cba_mode.specs.Charge.{charge}
 use Rattle.ledger.proofs.checks.charge.Statement.{statement}
 use Rattle.ledger.proofs.checks.charge.Tie as tie
 

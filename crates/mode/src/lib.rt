@@ -1,2 +1,0 @@
-// The mode CBA v1-1 over any block cipher: its definitions and their laws. What it has in code begins
-// in `mode_steps`.

@@ -1,9 +1,0 @@
--- An offset as two numbers, one for each half, as the loops over the full blocks have it.
--- Assumes nothing.
-use mathlib.Core.List.{List, _++_}
-use Prim.Native.Nat.{ℕ}
-use Rattle.octets.specs.Numbers.{digits}
-use Rattle.mode_steps.specs.declared.offsets.Halves.{Halves}
-
-abbrev pub halvesOf : Halves → List ℕ
-halvesOf h = digits 8 (h .a) ++ digits 8 (h .b)
