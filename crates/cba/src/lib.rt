@@ -1,11 +1,38 @@
-// CBA v1-1 over AES for the ten parameter sets: plain sealing and plain opening, with their refusals,
-// offered to C.
-mod open;
-mod seal;
-mod sets;
+// The calls that C gets, and nothing else: `rt staticlib cba` makes libcba.a of them.
+ghost use Rattle.cba_rules.specs.Refusals.{SealCall, OpenCall};
 
-pub use open::cba_open;
-pub use seal::cba_seal;
-pub use sets::Parameters;
-pub use sets::Set;
-pub use sets::lookup;
+// Seals message over the first bytes of out and answers 0, or answers 1, 2, 3, 4, 5 or 7 and
+// leaves out as it was.
+#[no_mangle]
+pub extern "C" fn cba_seal(
+    set: u32,
+    key: &[u8],
+    nonce: &[u8],
+    ad: &[u8],
+    message: &[u8],
+    out: &mut [u8],
+) -> u32
+    ensures { λ r. ⌜
+        SealCall set (now (key .entry)) (now (nonce .entry)) (now (ad .entry)) (now (message .entry)) (now (out .entry)) r (now (out .exit))
+        ⌝ }
+{
+    plain::seal_plain(set, key, nonce, ad, message, out)
+}
+
+// Opens ciphertext over the first bytes of out and answers 0, or answers 1 to 7 and leaves out as
+// it was, or answers 8 and writes zeros where the message would be.
+#[no_mangle]
+pub extern "C" fn cba_open(
+    set: u32,
+    key: &[u8],
+    nonce: &[u8],
+    ad: &[u8],
+    ciphertext: &[u8],
+    out: &mut [u8],
+) -> u32
+    ensures { λ r. ⌜
+        OpenCall set (now (key .entry)) (now (nonce .entry)) (now (ad .entry)) (now (ciphertext .entry)) (now (out .entry)) r (now (out .exit))
+        ⌝ }
+{
+    plain::open_plain(set, key, nonce, ad, ciphertext, out)
+}

@@ -21,18 +21,18 @@ fn print_tag(h: [u8; 16], bits: u8) {
 }
 
 // T_A under a set and a key, where both are good.
-fn print_data_tag(set: u8, key: &[u8], header: &[u8]) {
-    let cba::Set::Known(p) = cba::lookup(set as u32) else {
+fn print_data_tag(set: u8, key: &[u8], ad: &[u8]) {
+    let plain::Set::Known(p) = plain::lookup(set as u32) else {
         return;
     };
-    if header.len() > 4096 {
+    if ad.len() > 4096 {
         return;
     }
     let mut ctx = aes::blank();
     if aes::set_key(key, &mut ctx) {
         print_tag(
-            cba_steps::data_hash(key, &ctx, p.tag, p.capacity, header),
-            p.tag,
+            cba_steps::data_hash(key, &ctx, p.tau, p.capacity, ad),
+            p.tau,
         );
     }
 }
@@ -42,12 +42,12 @@ fn two_bytes(a: u8, b: u8) -> usize {
 }
 
 // Reads the key and the data of a record into the buffers that are lent.
-fn record(head: [u8; 4], key: &mut [u8], header: &mut [u8]) {
+fn record(head: [u8; 4], key: &mut [u8], ad: &mut [u8]) {
     let k = least(head[1] as usize, key.len());
-    let n = least(two_bytes(head[2], head[3]), header.len());
+    let n = least(two_bytes(head[2], head[3]), ad.len());
     io::read_full(STDIN_FILENO, &mut key[..k]);
-    io::read_full(STDIN_FILENO, &mut header[..n]);
-    print_data_tag(head[0], &key[..k], &header[..n]);
+    io::read_full(STDIN_FILENO, &mut ad[..n]);
+    print_data_tag(head[0], &key[..k], &ad[..n]);
 }
 
 fn main() {
@@ -55,11 +55,11 @@ fn main() {
     while turns < 10000 {
         let mut head = [0u8; 4];
         let mut key = [0u8; 32];
-        let mut header = io::buffer();
+        let mut ad = io::buffer();
         if io::read_full(STDIN_FILENO, &mut head) < 4 {
             return;
         }
-        record(head, &mut key, &mut header);
+        record(head, &mut key, &mut ad);
         turns += 1;
     }
 }

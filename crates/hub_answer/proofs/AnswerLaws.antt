@@ -5,15 +5,18 @@ use mathlib.Core.Bool.{Bool, true, false, cond, _&&_}
 use mathlib.Core.List.{List, [], _∷_}
 use Prim.Native.Nat.{ℕ, _+_, _-_, _<_, _≤_}
 use native.Mathlib.Omega.{arith}
-use borrow.Author.Tests.{eq-eqb, ne-eqb, lt-leb, leb-true, le-ltb, ltb-true, ltb-false}
-use lib.Dec.{T, eqb, leb, ltb}
+use borrow.Author.Tests.{eq-eqb, ne-eqb, lt-leb, leb-true, le-ltb}
+use lib.Dec.{T, eqb, leb}
 use lib.ListN.{length, take, length-take, length-drop, length-replicate}
 use Rattle.cba_mode.specs.Sets.{isSet}
-use Rattle.cba_mode.specs.Open.{messageOf}
-use Rattle.cba.specs.Refusals.{Row, answer, setTag, opening, sealRows, openRows, sealAnswer, openAnswer, SealCall, OpenCall}
-use Rattle.cba.specs.Demands.{Passed, AllBytes}
-use Rattle.cba.proofs.AnswerLaws.{set-fits, seal-passed, open-passed, open-refusals}
-use Rattle.cba.proofs.Demands.{demand-2, speaks}
+use Rattle.cba_mode.specs.Open.{isFalse, messageOf}
+use Rattle.answers.specs.Rows.{Row, answer}
+use Rattle.cba_rules.specs.Checks.{setTag, sealRows, openRows}
+use Rattle.cba_rules.specs.Refusals.{opening, sealAnswer, openAnswer, SealCall, OpenCall}
+use Rattle.cba_rules.specs.Demands.{AllBytes}
+use Rattle.cba_rules.proofs.SetLaws.{set-fits}
+use Rattle.cba_rules.proofs.RefusalLaws.{seal-accepted, open-accepted}
+use Rattle.cba_rules.proofs.Demands.{demand-2, speaks}
 use Rattle.hub_answer.specs.declared.answer.Reply.{Reply}
 use Rattle.hub_text.specs.declared.request.Asked.{Asked}
 use Rattle.hub_text.specs.Lines.{Request, Parsed, Writable, part, parse}
@@ -71,18 +74,16 @@ module _ (q : Request) (w : Writable q) (out : List ℕ) (h : length (q .text) +
   enough : length (q .text) + 16 ≤ length (room q)
   enough = omega (arith, length-replicate {A = ℕ} (length (q .text) + 16) 0)
 
-  seal-accepted : Seals → r ≡ 0 → Passed (q .set) (q .key) (q .nonce) (q .header) (q .text) 65536
-  seal-accepted c e = seal-passed (q .set) (q .key) (q .nonce) (q .header) (q .text) out (sym (c .0) ∙ e)
-
   seal-is : q .seals ≡ true → Seals → Calls q r out′
   unfolding requestAnswer requestResult
   seal-is s c =
       let a : r ≡ requestAnswer q = rw s (c .0 ∙ seal-any (q .set) (q .key) (q .nonce) (q .header) (q .text) out (room q) h enough) in
       record {
         answer-is = a;
-        sized = λ e. record { is-set = seal-accepted c e .is-set; long = λ z. absurd (subst T (sym s ∙ z) tt) };
+        sized = λ e. record { is-set = seal-accepted (q .set) (q .key) (q .nonce) (q .header) (q .text) out (sym (c .0) ∙ e) .0 .is-set; long = λ z. absurd (subst T (sym s ∙ z) tt) };
         result-is = λ e.
-            let p = seal-accepted c e in
+            let accepted = seal-accepted (q .set) (q .key) (q .nonce) (q .header) (q .text) out (sym (c .0) ∙ e) in
+            let p = accepted .0 in
             rw (eq-eqb (requestAnswer q) 0 (sym a ∙ e), s)
             (speaks .seals (q .set) (q .key) (q .nonce) (q .header) (q .text)
             (record {
@@ -92,21 +93,8 @@ module _ (q : Request) (w : Writable q) (out : List ℕ) (h : length (q .text) +
               its-data = w .header-bytes;
               data-limit = p .data-limit;
             })
-            (record { bytes = w .text-bytes; limit = p .text-limit }) out (omega (arith, tag-most (q .set) (p .is-set))) r out′ c .1);
+            (record { bytes = w .text-bytes; limit = accepted .1 .limit }) out (omega (arith, tag-most (q .set) (p .is-set))) r out′ c .1);
       }
-
-  open-accepted : Opens → r ≡ 0 → Passed (q .set) (q .key) (q .nonce) (q .header) (q .text) (65536 + setTag (q .set))
-  open-accepted c e = open-passed (q .set) (q .key) (q .nonce) (q .header) (q .text) out 0 (λ k g i z. omega (arith, z)) (sym (c .0) ∙ e) .0
-
-  -- what opens has room for its tag
-  open-long : Opens → r ≡ 0 → setTag (q .set) ≤ length (q .text)
-  open-long c e = go (ltb (length (q .text)) (setTag (q .set))) refl
-    where
-      go : (b : Bool) → ltb (length (q .text)) (setTag (q .set)) ≡ b → setTag (q .set) ≤ length (q .text)
-      go false z = ltb-false (length (q .text)) (setTag (q .set)) z
-      go true z =
-          let stub = open-refusals (q .set) (q .key) (q .nonce) (q .header) (q .text) out r out′ c .refuse-stub (open-accepted c e) (ltb-true (length (q .text)) (setTag (q .set)) z) in
-          absurd (omega (arith, e, stub))
 
   open-is : q .seals ≡ false → Opens → Calls q r out′
   unfolding requestAnswer requestResult opening messageOf
@@ -114,7 +102,9 @@ module _ (q : Request) (w : Writable q) (out : List ℕ) (h : length (q .text) +
       let a : r ≡ requestAnswer q = rw s (c .0 ∙ open-any (q .set) (q .key) (q .nonce) (q .header) (q .text) out (room q) h enough) in
       record {
         answer-is = a;
-        sized = λ e. record { is-set = open-accepted c e .is-set; long = λ z. open-long c e };
+        sized = λ e.
+            let accepted = open-accepted (q .set) (q .key) (q .nonce) (q .header) (q .text) out (sym (c .0) ∙ e) .0 in
+            record { is-set = accepted .0 .is-set; long = λ z. accepted .1 .least };
         result-is = λ e.
             let b : AllBytes (q .key) (q .nonce) (q .header) (q .text) =
             record { key-bytes = w .key-bytes; nonce-bytes = w .nonce-bytes; data-bytes = w .header-bytes; text-bytes = w .text-bytes } in
@@ -212,8 +202,8 @@ answer-most (asked q) =
     omega (
       arith,
       either-most (q .seals) _ _ 8
-          (rows-most (sealRows (q .set) (q .key) (q .nonce) (q .header) (q .text) (room q)) refl)
-          (rows-most (openRows (q .set) (q .key) (q .nonce) (q .header) (q .text) (room q)) refl),
+          (rows-most (sealRows (q .set) (length (q .key)) (length (q .nonce)) (length (q .header)) (length (q .text)) (length (room q))) refl)
+          (rows-most (openRows (q .set) (length (q .key)) (length (q .nonce)) (length (q .header)) (length (q .text)) (length (room q)) (isFalse (opening (q .set) (q .key) (q .nonce) (q .header) (q .text)))) refl),
     )
 answer-most malformed = omega arith
 

@@ -6,7 +6,7 @@ use Prim.Native.Nat.{ℕ, _+_}
 use lib.Dec.{eqb}
 use lib.ListN.{length, replicate}
 use Rattle.cba_mode.specs.Open.{messageOf}
-use Rattle.cba.specs.Refusals.{sealing, opening, sealAnswer, openAnswer}
+use Rattle.cba_rules.specs.Refusals.{sealing, opening, sealAnswer, openAnswer}
 use Rattle.hub_text.specs.Numerals.{decimal, shown}
 use Rattle.hub_text.specs.Lines.{Request, Parsed, parse}
 use Rattle.hub_text.specs.Lines.Parsed.{asked, malformed}

@@ -6,7 +6,8 @@ use mathlib.Core.List.{List}
 use Prim.Native.Nat.{ℕ, _+_, _-_, _≤_}
 use lib.ListN.{length, take}
 use Rattle.cba_mode.specs.Sets.{isSet}
-use Rattle.cba.specs.Refusals.{setTag, SealCall, OpenCall}
+use Rattle.cba_rules.specs.Checks.{setTag}
+use Rattle.cba_rules.specs.Refusals.{SealCall, OpenCall}
 use Rattle.hub_text.specs.declared.request.Asked.{Asked}
 use Rattle.hub_answer.specs.declared.answer.Reply.{Reply}
 use Rattle.hub_answer.specs.declared.answer.Answer.{Answer}

@@ -8,7 +8,7 @@ ghost use mathlib.Core.Bool.{true};
 ghost use Prim.Native.Nat.{_≤_, _<_};
 ghost use lib.ListN.{length};
 ghost use Rattle.cba_mode.specs.Sets.{isSet};
-ghost use Rattle.cba.specs.Refusals.{setTag};
+ghost use Rattle.cba_rules.specs.Checks.{setTag};
 ghost use Rattle.hub_text.specs.Lines.{parse};
 ghost use Rattle.hub_text.specs.Requests.{requestOf};
 ghost use Rattle.hub_answer.specs.Replies.{InOrder, resultBytes, Sized, Called, Refused, Replies, Answers};
@@ -36,9 +36,9 @@ fn call(a: Asked, bytes: &[u8], result: &mut [u8]) -> u32
     let header = word(bytes, a.nonce, a.header);
     let text = word(bytes, a.header, a.text);
     if a.seals {
-        return cba::cba_seal(a.set, key, nonce, header, text, result);
+        return plain::seal_plain(a.set, key, nonce, header, text, result);
     }
-    cba::cba_open(a.set, key, nonce, header, text, result)
+    plain::open_plain(a.set, key, nonce, header, text, result)
 }
 
 // How many bytes a set's tag has.
@@ -46,10 +46,10 @@ fn set_tag(set: u32) -> usize
     requires { ⌜ isSet set ≡ true ⌝ }
     ensures { λ r. ⌜ r ≡ setTag set ⌝ }
 {
-    let cba::Set::Known(p) = cba::lookup(set) else {
+    let plain::Set::Known(p) = plain::lookup(set) else {
         return 0;
     };
-    cba_sealing::tag_bytes(p.tag)
+    p.tag_bytes()
 }
 
 // How many bytes an accepted request's result has, by how many its text has.

@@ -4,7 +4,9 @@ use mathlib.Core.Path.{_≡_, refl}
 use mathlib.Core.List.{List, [], _∷_, _++_}
 use Prim.Native.Nat.{ℕ}
 use Rattle.cba_mode.specs.Sets.{isSet, column}
-use Rattle.cba.specs.Refusals.{answer, sealRows, openRows, sealAnswer, openAnswer}
+use Rattle.answers.specs.Rows.{answer}
+use Rattle.cba_rules.specs.Checks.{sealRows, openRows}
+use Rattle.cba_rules.specs.Refusals.{sealAnswer, openAnswer}
 use Rattle.hub_text.specs.Numerals.{decimalOf, isDigit, allDigits, isSetNumber, decimalValue, hexDigit, hex, shown, isHexDigit, hexValue, areHexPairs, unhex, isValue, valueOf}
 use Rattle.hub_text.specs.Lines.{joinFirst, wordsOf, fromSix, fromWords, parse}
 use Rattle.hub_answer.specs.Answers.{requestAnswer, requestResult, answerOf, resultOf, acceptedSet, lineText, lineFor}

@@ -15,6 +15,9 @@ use lib.Seq.{take-all}
 use Rattle.octets.specs.Numbers.{number}
 use Rattle.octets.proofs.Numbers.{number-more}
 use Rattle.octets.proofs.Tests.{le-or-lt}
+use Rattle.answers.proofs.RowLaws.{not-false, not-true}
+use Rattle.cba_mode.specs.Sets.{capacity}
+use Rattle.ledger_rules.specs.Ledger.{Ledger, stale, spent}
 
 -- ---- the capacity
 
@@ -96,3 +99,27 @@ ordered-other {a} {b} {i} above′ same′ v h l e p q f g =
 
 pub ordered-all : {a b : List ℕ} {i : ℕ} {above same : Bool} → Ordered a b i above same → length a ≤ i → length a ≡ length b → above ≡ ltb (number b) (number a)
 ordered-all {a} {b} {i} v h l = v .above-now ∙ ap₂ (λ (s t : List ℕ). ltb (number s) (number t)) (take-all i b (omega arith)) (take-all i a h)
+
+-- ---- the ledger's own checks
+
+pub not-begun : (l : Ledger) (N : List ℕ) → not (l .begun) ≡ true → false ≡ stale l N
+unfolding stale
+not-begun l N h = rw (not-true (l .begun) h) refl
+
+pub not-above : (l : Ledger) (N : List ℕ) (r : Bool) → not (l .begun) ≡ false → r ≡ ltb (number (l .last)) (number N) → not r ≡ stale l N
+unfolding stale
+not-above l N r h e =
+    rw (not-false (l .begun) h, e)
+    (⊎-elim
+    (λ (k : number N ≤ number (l .last)). rw (le-ltb (number (l .last)) (number N) k, le-leb (number N) (number (l .last)) k) refl)
+    (λ (k : number (l .last) < number N). rw (lt-ltb (number (l .last)) (number N) k, lt-leb (number N) (number (l .last)) k) refl)
+    (le-or-lt (number N) (number (l .last))))
+
+-- by whether the charge goes in
+pub spent-is : (l : Ledger) (b c : ℕ) (r : Bool) → r ≡ not (ltb (2 ^ b) (l .total + c)) → b ≡ capacity (l .set) → spent l c ≡ not r
+unfolding spent
+spent-is l b c r e eb = ap (λ (i : ℕ). ltb (2 ^ i) (l .total + c)) (sym eb) ∙ twice (ltb (2 ^ b) (l .total + c)) ∙ ap not (sym e)
+  where
+    twice : (x : Bool) → x ≡ not (not x)
+    twice true = refl
+    twice false = refl

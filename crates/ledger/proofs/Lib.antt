@@ -1,4 +1,3 @@
 pub mod CheckLaws
-pub mod LedgerLaws
-pub mod Runs
 pub mod ValueLaws
+pub mod CallLaws

@@ -6,8 +6,7 @@ use mathlib.Core.List.{List, _++_, append-nil}
 use Prim.Native.Nat.{ℕ, _+_, _-_}
 use native.Mathlib.Omega.{arith}
 use lib.ListN.{length, drop, replicate, drop-of-length-le}
-use Rattle.ledger.specs.declared.ledger.Ledger.{Ledger}
-use Rattle.ledger.specs.Ledger.{fresh, charged}
+use Rattle.ledger_rules.specs.Ledger.{Ledger, fresh, charged}
 use Rattle.octets.proofs.Strings.{drop-replicate}
 
 pub fresh-key : (set : ℕ) (key put : List ℕ) → put ≡ key ++ drop (length key) (replicate 32 0) →

@@ -28,11 +28,11 @@ pub fn above(nonce: &[u8], last: &[u8]) -> bool
 }
 
 // The blocks of a sealing.
-pub fn charge(header: usize, text: usize) -> u64
-    requires { ⌜ (header ≤ 4096) × (text ≤ 65536) ⌝ }
-    ensures { λ r. ⌜ r ≡ charge header text ⌝ }
+pub fn charge(ad: usize, message: usize) -> u64
+    requires { ⌜ (ad ≤ 4096) × (message ≤ 65536) ⌝ }
+    ensures { λ r. ⌜ r ≡ charge ad message ⌝ }
 {
-    ((header + 15) / 16 + (text + 15) / 16) as u64
+    ((ad + 15) / 16 + (message + 15) / 16) as u64
 }
 
 // Whether a charge goes into what is left of the capacity. The sum is not formed: it might not fit.

@@ -2,13 +2,23 @@
 use crate::checks::above;
 use crate::checks::charge;
 use crate::checks::fits;
+use plain::Parameters;
+use plain::Set;
+use plain::ad_check;
+use plain::first_of;
+use plain::key_check;
+use plain::lookup;
+use plain::message_check;
+use plain::nonce_check;
 ghost use mathlib.Core.Path.{_≡_};
 ghost use Prim.Native.Nat.{_+_, _-_, _^_, _≤_, _<_};
 ghost use lib.ListN.{length};
-ghost use Rattle.cba_mode.specs.Charge.{charge};
-ghost use Rattle.cba.specs.declared.sets.Set.the-variants.{Known};
-ghost use Rattle.cba.specs.Lookup.{lookupOf};
-ghost use Rattle.ledger.specs.Ledger.{noLedger, fresh, makeAnswer, madeLedger, stale, charged, ledgerAnswer, LedgerCall};
+ghost use Rattle.answers.specs.Rows.{answer};
+ghost use Rattle.cba_mode.specs.Sets.{tagBytes};
+ghost use Rattle.plain.specs.declared.sets.Set.the-variants.{Known};
+ghost use Rattle.plain.specs.Lookup.{lookupOf};
+ghost use Rattle.ledger_rules.specs.Ledger.{noLedger, fresh, makeAnswer, madeLedger, stale, spent, ownRows, ledgerChecks, charged, ledgerAnswer};
+ghost use Rattle.ledger.specs.Values.{valueOf, Ran};
 
 // The set, the key with zeros after it up to 32 bytes, the total of blocks charged, and the last
 // accepted nonce, where one has begun it.
@@ -34,7 +44,7 @@ pub struct Sealed {
 
 // The ledger of a refused making.
 fn none() -> Ledger
-    ensures { λ r. ⌜ r ≡ noLedger ⌝ }
+    ensures { λ r. ⌜ valueOf r ≡ noLedger ⌝ }
 {
     Ledger {
         set: 0,
@@ -48,7 +58,7 @@ fn none() -> Ledger
 // A fresh ledger.
 fn begin(set: u32, key: &[u8]) -> Ledger
     requires { ⌜ length (now key) ≤ 32 ⌝ }
-    ensures { λ r. ⌜ r ≡ fresh set (now (key .entry)) ⌝ }
+    ensures { λ r. ⌜ valueOf r ≡ fresh set (now (key .entry)) ⌝ }
 {
     let mut k = [0u8; 32];
     octets::put(&mut k, key);
@@ -63,17 +73,19 @@ fn begin(set: u32, key: &[u8]) -> Ledger
 
 // Makes the ledger of a key, and answers 0, or answers 1 or 2.
 pub fn make(set: u32, key: &[u8]) -> Made
-    ensures { λ r. ⌜ (r .answer ≡ makeAnswer set (now (key .entry))) × (r .ledger ≡ madeLedger set (now (key .entry))) ⌝ }
+    ensures { λ r. ⌜ r .answer ≡ makeAnswer set (now (key .entry)) ⌝ }
+    ensures { λ r. ⌜ valueOf (r .ledger) ≡ madeLedger set (now (key .entry)) ⌝ }
 {
-    let cba::Set::Known(p) = cba::lookup(set) else {
+    let Set::Known(p) = lookup(set) else {
         return Made {
             answer: 1,
             ledger: none(),
         };
     };
-    if key.len() != (p.key / 8) as usize {
+    let refusal = key_check(p, key.len());
+    if refusal != 0 {
         return Made {
-            answer: 2,
+            answer: refusal,
             ledger: none(),
         };
     }
@@ -86,7 +98,7 @@ pub fn make(set: u32, key: &[u8]) -> Made
 // Whether a nonce is not above the last accepted.
 fn is_stale(l: Ledger, nonce: &[u8]) -> bool
     requires { ⌜ length (now nonce) ≡ 12 ⌝ }
-    ensures { λ r. ⌜ r ≡ stale l (now (nonce .entry)) ⌝ }
+    ensures { λ r. ⌜ r ≡ stale (valueOf l) (now (nonce .entry)) ⌝ }
 {
     if !l.begun {
         return false;
@@ -95,43 +107,45 @@ fn is_stale(l: Ledger, nonce: &[u8]) -> bool
     !above(nonce, &last)
 }
 
-// The checks after the first, in their order, for a set that is known.
-fn checked(
-    l: Ledger,
-    p: cba::Parameters,
-    nonce: &[u8],
-    header: &[u8],
-    text: &[u8],
-    room: usize,
-) -> u32
+// The ledger's own checks, for a set that is known.
+fn own_check(l: Ledger, p: Parameters, nonce: &[u8], charge: u64) -> u32
     requires { ⌜ lookupOf (l .set) ≡ Known p ⌝ }
-    ensures { λ r. ⌜ r ≡ ledgerAnswer l (now (nonce .entry)) (now (header .entry)) (now (text .entry)) room ⌝ }
+    requires { ⌜ length (now nonce) ≡ 12 ⌝ }
+    ensures { λ r. ⌜ r ≡ answer (ownRows (stale (valueOf l) (now (nonce .entry))) (spent (valueOf l) charge)) ⌝ }
 {
-    if nonce.len() != 12 {
-        return 3;
-    }
-    if header.len() > 4096 {
-        return 4;
-    }
-    if text.len() > 65536 {
-        return 5;
-    }
-    if room < text.len() + cba_sealing::tag_bytes(p.tag) {
-        return 7;
-    }
     if is_stale(l, nonce) {
         return 9;
     }
-    if !fits(l.total, charge(header.len(), text.len()), p.capacity) {
+    if !fits(l.total, charge, p.capacity) {
         return 10;
     }
     0
 }
 
+// The checks that a ledger shares with plain sealing, after the set's.
+fn first_checks(p: Parameters, nonce: usize, ad: usize, message: usize, room: usize) -> u32
+    ensures { λ r. ⌜ r ≡ answer (ledgerChecks (tagBytes (p .tau)) nonce ad message room) ⌝ }
+{
+    let a = first_of(nonce_check(nonce), ad_check(ad));
+    first_of(a, message_check(p, message, room))
+}
+
+// The checks after the set's, in their order.
+fn checked(l: Ledger, p: Parameters, nonce: &[u8], ad: usize, message: usize, room: usize) -> u32
+    requires { ⌜ lookupOf (l .set) ≡ Known p ⌝ }
+    ensures { λ r. ⌜ r ≡ ledgerAnswer (valueOf l) (now (nonce .entry)) ad message room ⌝ }
+{
+    let refusal = first_checks(p, nonce.len(), ad, message, room);
+    if refusal != 0 {
+        return refusal;
+    }
+    own_check(l, p, nonce, charge(ad, message))
+}
+
 // The ledger after an accepted sealing: the charge added, the nonce kept.
 fn next(l: Ledger, nonce: &[u8], charge: u64) -> Ledger
     requires { ⌜ (length (now nonce) ≡ 12) × (l .total + charge < 2 ^ 64) ⌝ }
-    ensures { λ r. ⌜ r ≡ charged l (now (nonce .entry)) charge ⌝ }
+    ensures { λ r. ⌜ valueOf r ≡ charged (valueOf l) (now (nonce .entry)) charge ⌝ }
 {
     let mut last = [0u8; 12];
     octets::put(&mut last, nonce);
@@ -148,20 +162,22 @@ fn next(l: Ledger, nonce: &[u8], charge: u64) -> Ledger
 // The sealing of an input that no check refuses.
 fn accepted(
     l: Ledger,
-    p: cba::Parameters,
+    p: Parameters,
     nonce: &[u8],
-    header: &[u8],
-    text: &[u8],
+    ad: &[u8],
+    message: &[u8],
     out: &mut [u8],
 ) -> Sealed
     requires { ⌜ lookupOf (l .set) ≡ Known p ⌝ }
-    requires { ⌜ ledgerAnswer l (now nonce) (now header) (now text) (length (now out)) ≡ 0 ⌝ }
-    ensures { λ r. ⌜ LedgerCall l (now (nonce .entry)) (now (header .entry)) (now (text .entry)) (now (out .entry)) (r .answer) (r .ledger) (now (out .exit)) ⌝ }
+    requires { ⌜ ledgerAnswer (valueOf l) (now nonce) (length (now ad)) (length (now message)) (length (now out)) ≡ 0 ⌝ }
+    ensures { λ r. ⌜
+        Ran l (now (nonce .entry)) (now (ad .entry)) (now (message .entry)) (now (out .entry)) (r .answer) (r .ledger) (now (out .exit))
+        ⌝ }
 {
     let key = l.key;
-    let n = (p.key / 8) as usize;
-    let answer = cba::cba_seal(l.set, &key[..n], nonce, header, text, out);
-    let after = next(l, nonce, charge(header.len(), text.len()));
+    let n = p.key_bytes();
+    let answer = plain::seal_plain(l.set, &key[..n], nonce, ad, message, out);
+    let after = next(l, nonce, charge(ad.len(), message.len()));
     Sealed {
         answer: answer,
         ledger: after,
@@ -169,40 +185,38 @@ fn accepted(
 }
 
 impl Ledger {
-    // Seals text over the first bytes of out under the ledger's key, answers 0 and gives back the next
-    // ledger; or answers 1, 3, 4, 5, 7, 9 or 10, and ledger and out are as they were.
-    pub fn sealed(self, nonce: &[u8], header: &[u8], text: &[u8], out: &mut [u8]) -> Sealed
-        ensures { λ r. ⌜ LedgerCall self (now (nonce .entry)) (now (header .entry)) (now (text .entry)) (now (out .entry)) (r .answer) (r .ledger) (now (out .exit)) ⌝ }
+    // Seals message over the first bytes of out under the ledger's key, answers 0 and gives back the
+    // next ledger; or answers 1, 3, 4, 5, 7, 9 or 10, and ledger and out are as they were.
+    pub fn sealed(self, nonce: &[u8], ad: &[u8], message: &[u8], out: &mut [u8]) -> Sealed
+        ensures { λ r. ⌜
+            Ran self (now (nonce .entry)) (now (ad .entry)) (now (message .entry)) (now (out .entry)) (r .answer) (r .ledger) (now (out .exit))
+            ⌝ }
     {
-        let cba::Set::Known(p) = cba::lookup(self.set) else {
+        let Set::Known(p) = lookup(self.set) else {
             return Sealed {
                 answer: 1,
                 ledger: self,
             };
         };
-        let answer = checked(self, p, nonce, header, text, out.len());
+        let answer = checked(self, p, nonce, ad.len(), message.len(), out.len());
         if answer != 0 {
             return Sealed {
                 answer: answer,
                 ledger: self,
             };
         }
-        accepted(self, p, nonce, header, text, out)
+        accepted(self, p, nonce, ad, message, out)
     }
 }
 
 // The same on a ledger that is lent, which becomes the next one.
-pub fn seal_in_place(
-    ledger: &mut Ledger,
-    nonce: &[u8],
-    header: &[u8],
-    text: &[u8],
-    out: &mut [u8],
-) -> u32
-    ensures { λ r. ⌜ LedgerCall (now (ledger .entry)) (now (nonce .entry)) (now (header .entry)) (now (text .entry)) (now (out .entry)) r (now (ledger .exit)) (now (out .exit)) ⌝ }
+pub fn seal_in_place(l: &mut Ledger, nonce: &[u8], ad: &[u8], message: &[u8], out: &mut [u8]) -> u32
+    ensures { λ r. ⌜
+        Ran (now (l .entry)) (now (nonce .entry)) (now (ad .entry)) (now (message .entry)) (now (out .entry)) r (now (l .exit)) (now (out .exit))
+        ⌝ }
 {
-    let l = *ledger;
-    let s = l.sealed(nonce, header, text, out);
-    *ledger = s.ledger;
+    let was = *l;
+    let s = was.sealed(nonce, ad, message, out);
+    *l = s.ledger;
     s.answer
 }

@@ -6,17 +6,17 @@
 //   put:  byte 0 is 1; 1..5 the set, 5..37 the key, 37..45 the total, 45 whether there is a last nonce,
 //         46..58 that nonce: the ledger is these values, whatever they are
 //   seal: byte 0 is 2; 1 the nonce's length, 2..5, 5..8 and 8..11 the lengths of data, text and output,
-//         11 and 12 the seeds of data and text, 13.. the nonce
+//         11 and 12 the seeds of data and message, 13.. the nonce
 //   lent: byte 0 is 3; the rest as for seal. The ledger is lent to the call, which changes it in place
 //
-// Data, text and what the output holds before a call are made from their seeds by `fill`; the output's
+// Data, message and what the output holds before a call are made from their seeds by `fill`; the output's
 // seed is 165. The files stdin and stdout beside src/ are what tests/ledger_model.rs writes, the
 // ledger written a second time, which ./test makes again and compares.
 use ledger::Ledger;
 use libc::STDIN_FILENO;
 use libc::STDOUT_FILENO;
 ghost use Prim.Native.Nat.{_≤_};
-ghost use Rattle.ledger.specs.Ledger.{LedgerCall};
+ghost use Rattle.ledger.specs.Values.{Ran};
 
 fn least(a: usize, b: usize) -> usize
     ensures { λ r. ⌜ (r ≤ a) × (r ≤ b) ⌝ }
@@ -170,13 +170,15 @@ fn print_sealed(kind: u8, s: ledger::Sealed, out: &[u8]) {
 fn seal_lent(
     mut l: Ledger,
     nonce: &[u8],
-    header: &[u8],
-    text: &[u8],
+    ad: &[u8],
+    message: &[u8],
     out: &mut [u8],
 ) -> ledger::Sealed
-    ensures { λ r. ⌜ LedgerCall l (now (nonce .entry)) (now (header .entry)) (now (text .entry)) (now (out .entry)) (r .answer) (r .ledger) (now (out .exit)) ⌝ }
+    ensures { λ r. ⌜
+        Ran l (now (nonce .entry)) (now (ad .entry)) (now (message .entry)) (now (out .entry)) (r .answer) (r .ledger) (now (out .exit))
+        ⌝ }
 {
-    let answer = ledger::seal_in_place(&mut l, nonce, header, text, out);
+    let answer = ledger::seal_in_place(&mut l, nonce, ad, message, out);
     ledger::Sealed {
         answer: answer,
         ledger: l,
@@ -188,50 +190,52 @@ fn seal_by(
     kind: u8,
     l: Ledger,
     nonce: &[u8],
-    header: &[u8],
-    text: &[u8],
+    ad: &[u8],
+    message: &[u8],
     out: &mut [u8],
 ) -> ledger::Sealed
-    ensures { λ r. ⌜ LedgerCall l (now (nonce .entry)) (now (header .entry)) (now (text .entry)) (now (out .entry)) (r .answer) (r .ledger) (now (out .exit)) ⌝ }
+    ensures { λ r. ⌜
+        Ran l (now (nonce .entry)) (now (ad .entry)) (now (message .entry)) (now (out .entry)) (r .answer) (r .ledger) (now (out .exit))
+        ⌝ }
 {
     if kind == 3 {
-        return seal_lent(l, nonce, header, text, out);
+        return seal_lent(l, nonce, ad, message, out);
     }
-    l.sealed(nonce, header, text, out)
+    l.sealed(nonce, ad, message, out)
 }
 
 // A sealing of strings that have the record's lengths.
-fn seal(l: Ledger, r: [u8; 64], header: &mut [u8], text: &mut [u8], out: &mut [u8]) -> Ledger {
-    fill(header, r[11]);
-    fill(text, r[12]);
+fn seal(l: Ledger, r: [u8; 64], ad: &mut [u8], message: &mut [u8], out: &mut [u8]) -> Ledger {
+    fill(ad, r[11]);
+    fill(message, r[12]);
     fill(out, 165);
     let end = 13 + least(r[1] as usize, 51);
     let kind = r[0];
-    let s = seal_by(kind, l, &r[13..end], header, text, out);
+    let s = seal_by(kind, l, &r[13..end], ad, message, out);
     print_sealed(kind, s, out);
     let next = s.ledger;
     next
 }
 
 // The same in buffers, of which it takes as much as the record says.
-fn seal_in(l: Ledger, r: [u8; 64], header: &mut [u8], text: &mut [u8], out: &mut [u8]) -> Ledger {
-    let h = least(length(r[2], r[3], r[4]), header.len());
-    let t = least(length(r[5], r[6], r[7]), text.len());
+fn seal_in(l: Ledger, r: [u8; 64], ad: &mut [u8], message: &mut [u8], out: &mut [u8]) -> Ledger {
+    let h = least(length(r[2], r[3], r[4]), ad.len());
+    let t = least(length(r[5], r[6], r[7]), message.len());
     let o = least(length(r[8], r[9], r[10]), out.len());
-    seal(l, r, &mut header[..h], &mut text[..t], &mut out[..o])
+    seal(l, r, &mut ad[..h], &mut message[..t], &mut out[..o])
 }
 
-fn step(l: Ledger, r: [u8; 64], header: &mut [u8], text: &mut [u8], out: &mut [u8]) -> Ledger {
+fn step(l: Ledger, r: [u8; 64], ad: &mut [u8], message: &mut [u8], out: &mut [u8]) -> Ledger {
     if r[0] == 0 {
         return made(r);
     }
     if r[0] == 1 {
         return put(r);
     }
-    seal_in(l, r, header, text, out)
+    seal_in(l, r, ad, message, out)
 }
 
-fn run(header: &mut [u8], text: &mut [u8], out: &mut [u8]) {
+fn run(ad: &mut [u8], message: &mut [u8], out: &mut [u8]) {
     let mut l = hand_made([0; 64]);
     let mut turns = 0u32;
     while turns < 1000000 {
@@ -239,14 +243,14 @@ fn run(header: &mut [u8], text: &mut [u8], out: &mut [u8]) {
         if io::read_full(STDIN_FILENO, &mut r) < 64 {
             return;
         }
-        l = step(l, r, header, text, out);
+        l = step(l, r, ad, message, out);
         turns += 1;
     }
 }
 
 fn main() {
-    let mut header = [0u8; 8192];
-    let mut text = [0u8; 66000];
+    let mut ad = [0u8; 8192];
+    let mut message = [0u8; 66000];
     let mut out = [0u8; 66000];
-    run(&mut header, &mut text, &mut out);
+    run(&mut ad, &mut message, &mut out);
 }

@@ -8,11 +8,11 @@ use Rattle.ledger_script.proofs.run.Statement.{statement}
 use Rattle.ledger_script.proofs.run.Tie as tie
 
 abbrev Inv-loop : tie.InvT-loop
-Inv-loop header₀ text₀ out₀ l₀ turns₀ header text out l turns =
-    (turns ≤ 1000000) × (length header ≡ length header₀) × (length text ≡ length text₀) × (length out ≡ length out₀)
+Inv-loop ad₀ message₀ out₀ l₀ turns₀ ad message out l turns =
+    (turns ≤ 1000000) × (length ad ≡ length ad₀) × (length message ≡ length message₀) × (length out ≡ length out₀)
 
 abbrev μ-loop : tie.MeasureT-loop
-μ-loop header₀ text₀ out₀ l₀ turns₀ header text out l turns = 1000000 - turns
+μ-loop ad₀ message₀ out₀ l₀ turns₀ ad message out l turns = 1000000 - turns
 
 pub run-spec : {M : Type 1} → statement M
 run-spec =

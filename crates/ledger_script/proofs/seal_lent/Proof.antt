@@ -46,7 +46,7 @@ use denote.Triple.Table.{entered, cited}
 use denote.Triple.Walked.{says, Stays, stay-dropped, gave-slice, walkOf, AllGo, goes-dropped, goes-gave-slice, Walks, ends-at, walked, walk-meets}
 use denote.Exit.{yes}
 use denote.Signature.{Slot, plain, shrSliceOf}
-use Rattle.ledger.specs.Ledger.{LedgerCall}
+use Rattle.ledger.specs.Values.{Ran}
 use Rattle.ledger.specs.declared.ledger.Ledger.{Ledger}
 use Rattle.ledger.specs.declared.ledger.Sealed.{Sealed}
 use Rattle.ledger.proofs.ledger.Ledger as T
@@ -62,7 +62,7 @@ use Rattle.ledger_script.proofs.seal_lent as seal-lent
 use Rattle.ledger_script.proofs.seal_lent.Statement as stated
 use Rattle.ledger_script.proofs.seal_lent.Code as code
 
--- the slots of the ledger, and of nonce, header and text
+-- the slots of the ledger, and of nonce, ad and message
 abbrev book : Slot 4
 book = plain (λ _. T.the-row)
 
@@ -82,7 +82,7 @@ stayed = (stay-dropped book yes, (stay-dropped bytes₀ yes, (stay-dropped bytes
 abbrev Callee : {M : Type 1} (𝓤 : URA M) (H : Heap 𝓤) (A : Atoms 𝓤) (at-mem : Memory → SProp 𝓤) (run : Routine → Fun 𝓤) → Contract 𝓤
 Callee 𝓤 H A at-mem run = tripleOf 𝓤 H A seal-in-place.signature (seal-in-place.spec 𝓤 H A at-mem run)
 
--- nonce, header, text and out, and their machine values
+-- nonce, ad, message and out, and their machine values
 abbrev Slices : Type 0
 Slices = RefT (List ℕ) × (RefT (List ℕ) × (RefT (List ℕ) × (RefT (List ℕ) × Unit {0})))
 
@@ -147,7 +147,7 @@ module _ {M : Type 1} (𝓤 : URA M) (H : Heap 𝓤) (A : Atoms 𝓤) (W : Given
 
   -- what is ensured of an answer, the next ledger and the output
   abbrev Ensured : ℕ → Ledger → List ℕ → Type 0
-  Ensured n l zs = LedgerCall h (now (xs .0)) (now (xs .1 .0)) (now (xs .1 .1 .0)) (now out) n l zs
+  Ensured n l zs = Ran h (now (xs .0)) (now (xs .1 .0)) (now (xs .1 .1 .0)) (now out) n l zs
 
   -- the local at b, lent for the lifetime α under the name γ
   abbrev lent : ℕ → GName → RefT Ledger

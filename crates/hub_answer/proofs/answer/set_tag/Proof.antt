@@ -3,7 +3,7 @@
 use mathlib.Core.Path.{sym, subst, _∙_}
 use borrow.Author.Needs.{needs}
 use lib.Dec.{T}
-use Rattle.cba.proofs.AnswerLaws.{is-unknown, its-tag}
+use Rattle.plain.proofs.SetLaws.{is-unknown, its-tag}
 use Rattle.hub_answer.proofs.answer.set_tag.Statement.{statement}
 use Rattle.hub_answer.proofs.answer.set_tag.Tie as tie
 

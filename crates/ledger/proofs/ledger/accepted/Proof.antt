@@ -1,43 +1,47 @@
 -- `ledger::ledger::accepted` meets its contract.
 -- Assumes nothing.
-use mathlib.Core.Path.{_≡_, _∙_, ap}
+use mathlib.Core.Path.{_≡_, _∙_, sym, ap}
 use Prim.Native.Nat.{ℕ}
+use native.Mathlib.Omega.{arith}
 use lib.ListN.{length}
-use Rattle.cba.proofs.AnswerLaws.{its-key}
-use Rattle.ledger.specs.Ledger.{charged}
-use Rattle.ledger.proofs.LedgerLaws.{key-part, ledger-ready, ledger-word, ledger-accepted}
+use Rattle.ledger_rules.specs.Ledger.{charged}
+use Rattle.ledger_rules.proofs.LedgerLaws.{ledger-accepted, ledger-word}
+use Rattle.ledger.specs.Values.{valueOf}
+use Rattle.ledger.proofs.CallLaws.{key-part, accepted-call}
 use borrow.Author.Needs.{needs}
 use Rattle.ledger.proofs.ledger.accepted.Statement.{statement}
 use Rattle.ledger.proofs.ledger.accepted.Tie as tie
 
 array-share-prefix-key : tie.Need-array-share-prefix-key
 array-share-prefix-key c =
-    let l : length (c .before .before .before .before .before .before .args .l .key) ≡ 32 = search needs in
-    let a = c .before .before .before .before .before .before .args in
-    key-part (a .l) (a .p) (c .before .before .before .before .before .before .pre .0) l .0
+    let s = c .before .before .before .before .before .before in
+    let l : length (s .args .l .key) ≡ 32 = search needs in
+    key-part (valueOf (s .args .l)) (s .args .p) _ (s .pre .0) l (c .key-bytes .ensures) .0
 
-slice-aggregate-cba-seal : tie.Need-slice-aggregate-cba-seal
-slice-aggregate-cba-seal c =
-    let l : length (c .before .before .before .before .before .before .before .args .l .key) ≡ 32 = search needs in
-    let a = c .before .before .before .before .before .before .before .args in
-    key-part (a .l) (a .p) (c .before .before .before .before .before .before .before .pre .0) l .1
+slice-aggregate-seal-plain : tie.Need-slice-aggregate-seal-plain
+slice-aggregate-seal-plain c =
+    let s = c .before .before .before .before .before .before .before in
+    let l : length (s .args .l .key) ≡ 32 = search needs in
+    key-part (valueOf (s .args .l)) (s .args .p) _ (s .pre .0) l (c .before .key-bytes .ensures) .1
 
 charge-requires : tie.Need-charge-requires
 charge-requires c κs =
-    let a = c .before .before .before .before .before .before .before .before .before .before .before .args in
-    let p = ledger-ready (a .l) (a .nonce .now) (a .header .now) (a .text .now) _ (c .before .before .before .before .before .before .before .before .before .before .before .pre .1) .0 in
-    (p .data-limit, p .text-limit)
+    let s = c .before .before .before .before .before .before .before .before .before .before .before in
+    let r = ledger-accepted (valueOf (s .args .l)) (s .args .nonce .now) _ _ _ (s .pre .1) .ready in
+    (r .data-limit, r .seals .limit)
 
 next-requires : tie.Need-next-requires
 next-requires c κs =
-    let a = c .before .before .before .before .before .before .before .before .before .before .before .before .args in
-    (ledger-ready (a .l) (a .nonce .now) (a .header .now) (a .text .now) _ (c .before .before .before .before .before .before .before .before .before .before .before .before .pre .1) .0 .nonce-length, ledger-word (a .l) (a .nonce .now) (a .header .now) (a .text .now) _ _ (c .before .before .before .before .before .before .before .before .before .before .before .before .pre .1) (c .charge .ensures))
+    let s = c .before .before .before .before .before .before .before .before .before .before .before .before in
+    (ledger-accepted (valueOf (s .args .l)) (s .args .nonce .now) _ _ _ (s .pre .1) .ready .nonce-length, omega (arith, ledger-word (valueOf (s .args .l)) (s .args .nonce .now) _ _ _ (s .pre .1), c .charge .ensures))
 
 returns : tie.Need-returns
 returns c =
-    let a = c .before .before .before .before .before .before .before .before .before .before .before .before .before .args in
-    ledger-accepted (a .l) (a .nonce .now) (a .header .now) (a .text .now) (a .out .now) _ _ _ _ (array-share-prefix-key (c .before .before .before .before .before .before .before)) (its-key (a .l .set) (a .p) (c .before .before .before .before .before .before .before .before .before .before .before .before .before .pre .0)) (c .before .before .before .before .before .before .before .before .before .before .before .before .before .pre .1) (c .before .before .before .before .cba-seal .ensures)
-    (c .next .ensures ∙ ap (λ (x : ℕ). charged (a .l) (a .nonce .now) x) (c .before .charge .ensures))
+    let s = c .before .before .before .before .before .before .before .before .before .before .before .before .before in
+    let at-key = c .before .before .before .before .before .before .before in
+    let a = s .args in
+    accepted-call (valueOf (a .l)) (a .p) _ (a .nonce .now) (a .ad .now) (a .message .now) (a .out .now) _ _ _ (s .pre .0) (at-key .key-bytes .ensures) (array-share-prefix-key at-key) (s .pre .1) (c .before .before .before .before .seal-plain .ensures)
+    (c .next .ensures ∙ ap (λ (x : ℕ). charged (valueOf (a .l)) (a .nonce .now) x) (c .before .charge .ensures))
 
 pub accepted-spec : {M : Type 1} → statement M
-accepted-spec = tie.close (tie.spec (λ c. search needs) array-share-prefix-key slice-aggregate-cba-seal (λ c κs. search needs) charge-requires next-requires (λ c. search needs) returns)
+accepted-spec = tie.close (tie.spec (λ c κs. search needs) array-share-prefix-key slice-aggregate-seal-plain (λ c κs. search needs) charge-requires next-requires (λ c. search needs) returns)

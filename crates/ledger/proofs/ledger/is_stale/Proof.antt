@@ -2,7 +2,8 @@
 -- Assumes nothing.
 use mathlib.Core.Path.{_≡_, sym, _∙_}
 use lib.ListN.{length}
-use Rattle.ledger.proofs.LedgerLaws.{not-begun, not-above}
+use Rattle.ledger.specs.Values.{valueOf}
+use Rattle.ledger.proofs.CheckLaws.{not-begun, not-above}
 use borrow.Author.Needs.{needs}
 use Rattle.ledger.proofs.ledger.is_stale.Statement.{statement}
 use Rattle.ledger.proofs.ledger.is_stale.Tie as tie
@@ -16,7 +17,7 @@ pub is-stale-spec : {M : Type 1} → statement M
 is-stale-spec =
     tie.close
     (tie.spec
-    (λ c. not-begun (c .before .before .before .args .l) (c .before .before .before .args .nonce .now) (c .if1 .taken))
+    (λ c. not-begun (valueOf (c .before .before .before .args .l)) (c .before .before .before .args .nonce .now) (c .if1 .taken))
     (λ c. search needs)
     above-requires
-    (λ c. not-above (c .before .before .before .before .before .before .args .l) (c .before .before .before .before .before .before .args .nonce .now) _ (c .before .before .before .if1 .left) (c .above .ensures)))
+    (λ c. not-above (valueOf (c .before .before .before .before .before .before .args .l)) (c .before .before .before .before .before .before .args .nonce .now) _ (c .before .before .before .if1 .left) (c .above .ensures)))

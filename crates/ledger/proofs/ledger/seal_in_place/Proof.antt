@@ -43,7 +43,7 @@ use denote.Triple.Table.{entered, cited}
 use denote.Triple.Walked.{says, Stays, stay-ref, stay-dropped, gave-slice, walkOf, AllGo, goes-ref, goes-dropped, goes-gave-slice, Walks, ends-at, walked, walk-meets}
 use denote.Exit.{yes}
 use denote.Signature.{Slot, plain, shrSliceOf}
-use Rattle.ledger.specs.Ledger.{LedgerCall}
+use Rattle.ledger.specs.Values.{Ran}
 use Rattle.ledger.specs.declared.ledger.Ledger.{Ledger}
 use Rattle.ledger.specs.declared.ledger.Sealed.{Sealed}
 use Rattle.ledger.proofs.ledger.Ledger as T
@@ -59,7 +59,7 @@ use Rattle.ledger.proofs.ledger.seal_in_place as seal-in-place
 use Rattle.ledger.proofs.ledger.seal_in_place.Statement as stated
 use Rattle.ledger.proofs.ledger.seal_in_place.Code as code
 
--- the slots of nonce, header and text
+-- the slots of nonce, ad and message
 abbrev bytes₁ : Slot 5
 bytes₁ = shrSliceOf (1 ∷ []) tt (plain (λ _. u8))
 
@@ -76,7 +76,7 @@ stayed = (stay-ref (0 ∷ []) tt (plain (λ _. T.the-row)), (stay-dropped bytes�
 abbrev Callee : {M : Type 1} (𝓤 : URA M) (H : Heap 𝓤) (A : Atoms 𝓤) (at-mem : Memory → SProp 𝓤) (run : Routine → Fun 𝓤) → Contract 𝓤
 Callee 𝓤 H A at-mem run = tripleOf 𝓤 H A sealed.signature (sealed.spec 𝓤 H A at-mem run)
 
--- nonce, header, text and out, and their machine values
+-- nonce, ad, message and out, and their machine values
 abbrev Slices : Type 0
 Slices = RefT (List ℕ) × (RefT (List ℕ) × (RefT (List ℕ) × (RefT (List ℕ) × Unit {0})))
 
@@ -123,7 +123,7 @@ module _ {M : Type 1} (𝓤 : URA M) (H : Heap 𝓤) (A : Atoms 𝓤) (W : Given
 
   -- what is ensured of an answer, the next ledger and the output
   abbrev Ensured : ℕ → Ledger → List ℕ → Type 0
-  Ensured n l zs = LedgerCall h (now (xs .0)) (now (xs .1 .0)) (now (xs .1 .1 .0)) (now out) n l zs
+  Ensured n l zs = Ran h (now (xs .0)) (now (xs .1 .0)) (now (xs .1 .1 .0)) (now out) n l zs
 
   -- what the callee's triple binds outside, and that what it asks is had
   abbrev to-sealed : Callee 𝓤 H A at-mem run .Ghost

@@ -1,9 +1,9 @@
 -- `ledger::ledger::Ledger::sealed` meets its contract.
 -- Assumes nothing.
 use mathlib.Core.Path.{sym, _∙_}
-use native.Mathlib.Omega.{arith}
-use Rattle.cba.proofs.AnswerLaws.{is-unknown}
-use Rattle.ledger.proofs.LedgerLaws.{ledger-refusals, ledger-refused}
+use Rattle.ledger_rules.proofs.LedgerLaws.{ledger-refused}
+use Rattle.ledger.specs.Values.{valueOf}
+use Rattle.ledger.proofs.CallLaws.{unknown-refused}
 use borrow.Author.Needs.{needs}
 use Rattle.ledger.proofs.ledger.Ledger.sealed.Statement.{statement}
 use Rattle.ledger.proofs.ledger.Ledger.sealed.Tie as tie
@@ -11,7 +11,7 @@ use Rattle.ledger.proofs.ledger.Ledger.sealed.Tie as tie
 returns : tie.Need-returns
 returns c =
     let a = c .before .before .before .before .before .before .before .args in
-    ledger-refused (a .self) (a .nonce .now) (a .header .now) (a .text .now) (a .out .now) 1 (sym (ledger-refusals (a .self) (a .nonce .now) (a .header .now) (a .text .now) _ .refuse-set (is-unknown (a .self .set) (sym (c .before .before .lookup .ensures) ∙ c .enum-told .given .1)))) (λ z. omega (arith, z))
+    unknown-refused (valueOf (a .self)) (a .nonce .now) (a .ad .now) (a .message .now) (a .out .now) (sym (c .before .before .lookup .ensures) ∙ c .enum-told .given .1)
 
 checked-requires : tie.Need-checked-requires
 checked-requires c κs = sym (c .before .before .before .lookup .ensures) ∙ c .before .p .given .1
@@ -19,7 +19,7 @@ checked-requires c κs = sym (c .before .before .before .lookup .ensures) ∙ c 
 returns-2 : tie.Need-returns-2
 returns-2 c =
     let a = c .before .before .before .before .before .before .before .before .before .before .args in
-    ledger-refused (a .self) (a .nonce .now) (a .header .now) (a .text .now) (a .out .now) _ (c .before .checked .ensures) (c .if1 .taken)
+    ledger-refused (valueOf (a .self)) (a .nonce .now) (a .ad .now) (a .message .now) (a .out .now) _ (c .before .checked .ensures) (c .if1 .taken)
 
 accepted-requires : tie.Need-accepted-requires
 accepted-requires c κs = (sym (c .before .before .before .before .before .before .lookup .ensures) ∙ c .before .before .before .before .p .given .1, sym (c .before .before .checked .ensures) ∙ c .before .if1 .left)

@@ -1,4 +1,0 @@
-pub mod SetLaws
-pub mod RefusalLaws
-pub mod AnswerLaws
-pub mod Demands

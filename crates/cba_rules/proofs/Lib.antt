@@ -1,0 +1,4 @@
+pub mod Examples
+pub mod SetLaws
+pub mod RefusalLaws
+pub mod Demands

@@ -1,0 +1,64 @@
+-- What the ten parameter sets have in common.
+-- Assumes nothing.
+use mathlib.Core.Path.{_≡_, refl, ap}
+use mathlib.Core.Bool.{Bool, true, false, _&&_, _||_}
+use mathlib.Core.List.{List, [], _∷_}
+use Prim.Native.Nat.{ℕ, _-_, _%_, _≤_}
+use native.Mathlib.Omega.{arith}
+use borrow.Author.Tests.{leb-true}
+use lib.Dec.{T, eqb, leb}
+use lib.ListN.{length, getD}
+use Rattle.octets.proofs.Tests.{agree, same}
+use Rattle.fips197.specs.Schedule.{isKey}
+use Rattle.cba_mode.specs.Sets.{isSet, column, keyBytes, ell, Fits}
+
+picked : Bool → ℕ
+picked true = 0
+picked false = 1
+
+bounds : ℕ → List ℕ
+bounds n =
+    (column 1 n - 127) ∷ (column 2 n - 48) ∷ (ell (column 1 n) (column 2 n) - 64) ∷ (ell (column 1 n) (column 2 n) % 32)
+    ∷ picked (eqb (keyBytes n) 16 || eqb (keyBytes n) 24 || eqb (keyBytes n) 32) ∷ (keyBytes n - 32) ∷ []
+
+zeros : ℕ → List ℕ
+zeros n = 0 ∷ 0 ∷ 0 ∷ 0 ∷ 0 ∷ 0 ∷ []
+
+test : T (agree bounds zeros 11)
+unfolding bounds zeros column picked
+test = tt
+
+and-right : (x y : Bool) → x && y ≡ true → y ≡ true
+and-right true y h = h
+and-right false true h = refl
+and-right false false h = h
+
+at-most-ten : (set : ℕ) → isSet set ≡ true → set ≤ 10
+unfolding isSet
+at-most-ten set h = leb-true set 10 (and-right (leb 1 set) (leb set 10) h)
+
+held : (set : ℕ) → isSet set ≡ true → bounds set ≡ zeros set
+held set h = let k = at-most-ten set h in same bounds zeros 11 test set (omega arith)
+
+pub set-fits : (set : ℕ) → isSet set ≡ true → Fits (column 1 set) (column 2 set)
+unfolding bounds zeros
+set-fits set h =
+    let e = held set h in
+    let e₀ = ap (λ (l : List ℕ). getD l 0 0) e in
+    let e₁ = ap (λ (l : List ℕ). getD l 1 0) e in
+    let e₂ = ap (λ (l : List ℕ). getD l 2 0) e in
+    (omega (arith, e₀), omega (arith, e₁), omega (arith, e₂), ap (λ (l : List ℕ). getD l 3 0) e)
+
+pub key-most : (set : ℕ) → isSet set ≡ true → keyBytes set ≤ 32
+unfolding bounds zeros
+key-most set h = let e = ap (λ (l : List ℕ). getD l 5 0) (held set h) in omega (arith, e)
+
+chosen : (x : Bool) → picked x ≡ 0 → x ≡ true
+unfolding picked
+chosen true h = refl
+chosen false h = absurd (omega (arith, h))
+
+pub set-key : (set : ℕ) (key : List ℕ) → isSet set ≡ true → length key ≡ keyBytes set → isKey key ≡ true
+unfolding bounds zeros isKey
+set-key set key h l =
+    rw l (chosen (eqb (keyBytes set) 16 || eqb (keyBytes set) 24 || eqb (keyBytes set) 32) (ap (λ (l : List ℕ). getD l 4 0) (held set h)))

@@ -1,0 +1,4 @@
+pub mod Checks
+pub mod Refusals
+pub mod Demands
+pub mod Examples

@@ -1,0 +1,18 @@
+-- The example calls have the answers of their tables.
+-- Assumes nothing.
+use mathlib.Core.Path.{_≡_, refl}
+use mathlib.Core.Bool.{true}
+use Rattle.octets.specs.Numbers.{number}
+use Rattle.answers.specs.Rows.{answer}
+use Rattle.cba_mode.specs.Sets.{isSet, column}
+use Rattle.cba_mode.specs.Charge.{charge}
+use Rattle.ledger_rules.specs.Ledger.{makeRows, stale, spent, ledgerRows, ledgerAnswer}
+use Rattle.ledger_rules.specs.Examples.{makings, sealings, makesSo, sealsSo}
+
+pub making-examples : makesSo makings ≡ true
+unfolding makesSo answer makeRows isSet column
+making-examples = refl
+
+pub sealing-examples : sealsSo sealings ≡ true
+unfolding sealsSo ledgerAnswer ledgerRows stale spent answer isSet column charge number
+sealing-examples = refl

@@ -1,0 +1,103 @@
+-- Laws of the parameter sets.
+-- Assumes nothing.
+use mathlib.Core.Path.{_≡_, refl, sym, ap, ap₂, _∙_}
+use mathlib.Core.Bool.{Bool, false, true, cond, not, _&&_}
+use mathlib.Core.List.{List, [], _∷_}
+use Prim.Native.Nat.{ℕ, _/_, _%_, _<_, _≤_}
+use native.Mathlib.Omega.{arith}
+use lib.Dec.{T, leb}
+use lib.ListN.{getD}
+use borrow.Author.Tests.{lt-leb, le-leb}
+use Rattle.octets.proofs.Tests.{agree, same}
+use Rattle.plain.specs.declared.sets.Parameters.{Parameters}
+use Rattle.plain.specs.declared.sets.Set.{Set}
+use Rattle.plain.specs.declared.sets.Set.the-variants.{Known, Unknown}
+use Rattle.cba_mode.specs.Sets.{isSet, column, keyBytes, tagBytes}
+use Rattle.cba_rules.specs.Checks.{setTag}
+use Rattle.answers.specs.Rows.{answer}
+use Rattle.plain.specs.Lookup.{lookupOf, numberOf, valuesOf, Lookups}
+
+-- τ and b are bytes
+cut : ℕ → List ℕ
+cut n = column 1 n % 256 ∷ column 2 n % 256 ∷ []
+
+uncut : ℕ → List ℕ
+uncut n = column 1 n ∷ column 2 n ∷ []
+
+test : T (agree cut uncut 11)
+unfolding cut uncut column
+test = tt
+
+pub small : (n : ℕ) → n ≤ 10 → (column 1 n % 256 ≡ column 1 n) × (column 2 n % 256 ≡ column 2 n)
+unfolding cut uncut
+small n h =
+    let e = same cut uncut 11 test n (omega arith) in
+    (ap (λ (l : List ℕ). getD l 0 0) e, ap (λ (l : List ℕ). getD l 1 0) e)
+
+pub is-set : (n : ℕ) → 1 ≤ n → n ≤ 10 → isSet n ≡ true
+unfolding isSet
+is-set n h k = ap₂ _&&_ (le-leb 1 n h) (le-leb n 10 k)
+
+pub below-set : (n : ℕ) → n < 1 → isSet n ≡ false
+unfolding isSet
+below-set n h = ap (λ b. b && leb n 10) (lt-leb 1 n h)
+
+pub above-set : (n : ℕ) → 1 ≤ n → 10 < n → isSet n ≡ false
+unfolding isSet
+above-set n h k = ap₂ _&&_ (le-leb 1 n h) (lt-leb n 10 k)
+
+pub known : (n : ℕ) → 1 ≤ n → n ≤ 10 →
+    Known (record { key = column 0 n; tau = column 1 n % 256; capacity = column 2 n % 256 }) ≡ lookupOf n
+unfolding lookupOf
+known n h k = rw (is-set n h k) (ap₂ (λ (x y : ℕ). Known (record { key = column 0 n; tau = x; capacity = y })) (small n k .0) (small n k .1))
+
+pub unknown : (n : ℕ) → isSet n ≡ false → Unknown ≡ lookupOf n
+unfolding lookupOf
+unknown n h = rw h
+
+-- ---- the number and the values of each case
+
+number-at : (p : Parameters) (x : Bool) → numberOf (cond x (Known p) Unknown) ≡ cond (not x) 1 0
+unfolding numberOf
+number-at p true = refl
+number-at p false = refl
+
+values-at : (p : Parameters) (x : Bool) → valuesOf (cond x (Known p) Unknown) ≡ cond x (p .key ∷ p .tau ∷ p .capacity ∷ []) []
+unfolding valuesOf
+values-at p true = refl
+values-at p false = refl
+
+pub lookups : Lookups
+unfolding lookupOf answer
+lookups = record { number-is = λ n. number-at _ (isSet n); values-are = λ n. values-at _ (isSet n) }
+
+-- ---- a known set
+
+isKnown : Set → Bool
+isKnown (Known p) = true
+isKnown Unknown = false
+
+known-is : (p : Parameters) (x : Bool) → isKnown (cond x (Known p) Unknown) ≡ x
+unfolding isKnown
+known-is p true = refl
+known-is p false = refl
+
+pub is-known : (set : ℕ) (p : Parameters) → lookupOf set ≡ Known p → isSet set ≡ true
+unfolding lookupOf isKnown
+is-known set p h = sym (known-is (record { key = column 0 set; tau = column 1 set; capacity = column 2 set }) (isSet set)) ∙ ap isKnown h
+
+pub is-unknown : (set : ℕ) → lookupOf set ≡ Unknown → isSet set ≡ false
+unfolding lookupOf isKnown
+is-unknown set h = sym (known-is (record { key = column 0 set; tau = column 1 set; capacity = column 2 set }) (isSet set)) ∙ ap isKnown h
+
+pub its-values : (set : ℕ) (p : Parameters) → lookupOf set ≡ Known p → (p .key ≡ column 0 set) × (p .tau ≡ column 1 set) × (p .capacity ≡ column 2 set)
+unfolding lookupOf valuesOf
+its-values set p h =
+    let e : column 0 set ∷ column 1 set ∷ column 2 set ∷ [] ≡ p .key ∷ p .tau ∷ p .capacity ∷ [] = sym (ap (λ (x : Bool). valuesOf (cond x (Known (record { key = column 0 set; tau = column 1 set; capacity = column 2 set })) Unknown)) (is-known set p h)) ∙ ap valuesOf h in
+    (sym (ap (λ (l : List ℕ). getD l 0 0) e), sym (ap (λ (l : List ℕ). getD l 1 0) e), sym (ap (λ (l : List ℕ). getD l 2 0) e))
+
+pub its-key : (set : ℕ) (p : Parameters) → lookupOf set ≡ Known p → p .key / 8 ≡ keyBytes set
+its-key set p h = ap (λ (x : ℕ). x / 8) (its-values set p h .0)
+
+pub its-tag : (set : ℕ) (p : Parameters) → lookupOf set ≡ Known p → tagBytes (p .tau) ≡ setTag set
+its-tag set p h = ap tagBytes (its-values set p h .1)
