@@ -9,9 +9,9 @@ use lib.ListN.{length, take, drop, length-drop, length-take}
 use lib.Seq.{take-add, take-all, length-take-le}
 use Rattle.hub_run.specs.declared.state.Hub.{Hub}
 use Rattle.hub_run.specs.declared.chunk.Fed.{Fed}
-use Rattle.hub_run.specs.Stream.{after}
+use Rattle.hub_rules.specs.Stream.{after}
 use Rattle.hub_run.specs.Values.{stateOf, Sound, Feeds}
-use Rattle.hub_run.proofs.CuttingLaws.{after-append}
+use Rattle.hub_rules.proofs.StreamLaws.{after-append}
 use Rattle.hub.specs.Follows.{Follows}
 
 -- used bytes of a chunk have been fed

@@ -5,7 +5,7 @@ use mathlib.Core.Bool.{Bool, false}
 use mathlib.Core.List.{List}
 use Prim.Native.Nat.{ℕ}
 use Rattle.hub_run.specs.declared.state.Hub.{Hub}
-use Rattle.hub_run.specs.Stream.{after}
+use Rattle.hub_rules.specs.Stream.{after}
 use Rattle.hub_run.specs.Values.{stateOf, Sound}
 
 -- from h, with the buffer line, to h′, with line′, by the bytes of s: unless a write failed, the state is the one after them

@@ -7,8 +7,9 @@ ghost use mathlib.Core.Path.{_≡_};
 ghost use mathlib.Core.Bool.{false};
 ghost use Prim.Native.Nat.{_≤_};
 ghost use lib.ListN.{length, take};
-ghost use Rattle.hub_run.specs.Values.{Sound};
+ghost use Rattle.hub_run.specs.Values.{endRoom, Sound};
 ghost use Rattle.hub.specs.Follows.{Follows};
+ghost use Rattle.hub_rules.specs.Stream.{lineRoom, lineKept};
 
 // The state, how much of the input was read last, whether more is to be read, and whether a write
 // failed.
@@ -28,7 +29,7 @@ fn write(out: &[u8], n: usize) -> bool
 
 // Feeds a chunk and writes what it says, piece by piece where the output is longer than its buffer.
 fn say(h: Hub, line: &mut [u8], chunk: &[u8], out: &mut [u8]) -> Going
-    requires { ⌜ 4200 ≤ length (now out) ⌝ }
+    requires { ⌜ lineRoom ≤ length (now out) ⌝ }
     requires { ⌜ Sound h (now line) ⌝ }
     ensures { λ r. ⌜ r .read ≡ length (now (chunk .entry)) ⌝ }
     ensures { λ r. ⌜ Follows h (now (line .entry)) (now (chunk .entry)) (r .hub) (r .failed) (now (line .exit)) ⌝ }
@@ -71,7 +72,7 @@ fn nothing(h: Hub, more: bool) -> Going
 // One read, and what it says: the state after the bytes that it read, which are the first of input. A
 // read that was interrupted is done again; any other that fails ends the input.
 fn read_some(h: Hub, input: &mut [u8], line: &mut [u8], out: &mut [u8]) -> Going
-    requires { ⌜ 4200 ≤ length (now out) ⌝ }
+    requires { ⌜ lineRoom ≤ length (now out) ⌝ }
     requires { ⌜ Sound h (now line) ⌝ }
     ensures { λ r. ⌜ Follows h (now (line .entry)) (take (r .read) (now (input .exit))) (r .hub) (r .failed) (now (line .exit)) ⌝ }
 {
@@ -89,7 +90,7 @@ fn read_some(h: Hub, input: &mut [u8], line: &mut [u8], out: &mut [u8]) -> Going
 // Reads until the input ends, no more of it counts, or a write fails. A proved loop has to end, and
 // nothing says that an input does, so it counts its turns down from a number that no run uses up.
 fn read_all(input: &mut [u8], line: &mut [u8], out: &mut [u8]) -> Going
-    requires { ⌜ (4097 ≤ length (now line)) × (4200 ≤ length (now out)) ⌝ }
+    requires { ⌜ (lineKept ≤ length (now line)) × (lineRoom ≤ length (now out)) ⌝ }
     ensures { λ r. ⌜ Sound (r .hub) (now (line .exit)) ⌝ }
 {
     let mut g = nothing(hub_run::begin(), true);
@@ -107,7 +108,7 @@ fn read_all(input: &mut [u8], line: &mut [u8], out: &mut [u8]) -> Going
 
 // The heading, what the input says, and the end.
 fn run(input: &mut [u8], line: &mut [u8], out: &mut [u8])
-    requires { ⌜ (4097 ≤ length (now line)) × (4400 ≤ length (now out)) ⌝ }
+    requires { ⌜ (lineKept ≤ length (now line)) × (endRoom ≤ length (now out)) ⌝ }
 {
     let n = hub_run::put_heading(out);
     if !write(out, n) {
@@ -125,6 +126,6 @@ fn run(input: &mut [u8], line: &mut [u8], out: &mut [u8])
 fn main() {
     let mut input = io::large_buffer();
     let mut out = io::large_buffer();
-    let mut line = [0u8; 4097];
+    let mut line = [0u8; hub_run::LINE_KEPT];
     run(&mut input, &mut line, &mut out);
 }

@@ -1,16 +1,16 @@
 -- What a line is answered: the plain calls with an output that is long enough, the reply, and the line of output.
 -- Assumes nothing.
 use mathlib.Core.Path.{_≡_, refl, sym, ap, subst, _∙_}
-use mathlib.Core.Bool.{Bool, true, false, cond, _&&_}
-use mathlib.Core.List.{List, [], _∷_}
-use Prim.Native.Nat.{ℕ, _+_, _-_, _<_, _≤_}
+use mathlib.Core.Bool.{Bool, true, false}
+use mathlib.Core.List.{List}
+use Prim.Native.Nat.{ℕ, _+_, _-_, _≤_}
 use native.Mathlib.Omega.{arith}
-use borrow.Author.Tests.{eq-eqb, ne-eqb, lt-leb, leb-true, le-ltb}
-use lib.Dec.{T, eqb, leb}
-use lib.ListN.{length, take, length-take, length-drop, length-replicate}
+use borrow.Author.Tests.{eq-eqb, ne-eqb, le-ltb}
+use lib.Dec.{T, eqb}
+use lib.ListN.{length, take, length-replicate}
 use Rattle.cba_mode.specs.Sets.{isSet}
-use Rattle.cba_mode.specs.Open.{isFalse, messageOf}
-use Rattle.answers.specs.Rows.{Row, answer}
+use Rattle.cba_mode.specs.Open.{messageOf}
+use Rattle.answers.specs.Rows.{answer}
 use Rattle.cba_rules.specs.Checks.{setTag, sealRows, openRows}
 use Rattle.cba_rules.specs.Refusals.{opening, sealAnswer, openAnswer, SealCall, OpenCall}
 use Rattle.cba_rules.specs.Demands.{AllBytes}
@@ -19,14 +19,15 @@ use Rattle.cba_rules.proofs.RefusalLaws.{seal-accepted, open-accepted}
 use Rattle.cba_rules.proofs.Demands.{demand-2, speaks}
 use Rattle.hub_answer.specs.declared.answer.Reply.{Reply}
 use Rattle.hub_text.specs.declared.request.Asked.{Asked}
-use Rattle.hub_text.specs.Lines.{Request, Parsed, Writable, part, parse}
-use Rattle.hub_text.specs.Lines.Parsed.{asked, malformed}
+use Rattle.hub_rules.specs.Lines.{Request, Parsed, Writable, parse}
+use Rattle.hub_rules.specs.Lines.Parsed.{asked, malformed}
+use Rattle.hub_text.specs.Cuts.{part}
 use Rattle.hub_text.specs.Requests.{requestOf, Read}
-use Rattle.hub_answer.specs.Answers.{room, requestAnswer, requestResult, answerOf, resultOf, acceptedSet, lineText, lineFor}
-use Rattle.hub_text.specs.Writing.{Puts}
+use Rattle.hub_rules.specs.Answers.{room, requestAnswer, requestResult, answerOf, resultOf, acceptedSet, lineText, lineFor}
+use Rattle.hub_text.proofs.CutLaws.{part-length}
+use Rattle.text.specs.Writing.{Puts}
 use Rattle.hub_answer.specs.Replies.{resultBytes, resultLength, Sized, Called, Refused, Replies, Answers}
-use Rattle.hub_text.proofs.NumeralLaws.{both}
-use Rattle.hub_text.proofs.Grammar.{grammar}
+use Rattle.hub_rules.proofs.Grammar.{grammar}
 
 -- ---- an output that is long enough does not count
 
@@ -57,7 +58,7 @@ pub record Calls (q : Request) (r : ℕ) (out : List ℕ) : Type 0 where
   pub result-is : r ≡ 0 → take (resultLength q) out ≡ requestResult q
 
 -- its strings are the parts that were cut out
-module _ (q : Request) {key N A text out : List ℕ} {r : ℕ} {out′ : List ℕ} (k : key ≡ q .key) (n : N ≡ q .nonce) (h : A ≡ q .header) (t : text ≡ q .text) where
+module _ (q : Request) {key N A text out : List ℕ} {r : ℕ} {out′ : List ℕ} (k : key ≡ q .key) (n : N ≡ q .nonce) (h : A ≡ q .ad) (t : text ≡ q .text) where
   pub called-seal : q .seals ≡ true → SealCall (q .set) key N A text out r out′ → Called q out r out′
   called-seal e w = record { sealed = λ s. rw (← k, ← n, ← h, ← t) w; opened = λ s. absurd (subst T (sym e ∙ s) tt) }
 
@@ -66,10 +67,10 @@ module _ (q : Request) {key N A text out : List ℕ} {r : ℕ} {out′ : List �
 
 module _ (q : Request) (w : Writable q) (out : List ℕ) (h : length (q .text) + 16 ≤ length out) (r : ℕ) (out′ : List ℕ) where
   abbrev Seals : Type 0
-  Seals = SealCall (q .set) (q .key) (q .nonce) (q .header) (q .text) out r out′
+  Seals = SealCall (q .set) (q .key) (q .nonce) (q .ad) (q .text) out r out′
 
   abbrev Opens : Type 0
-  Opens = OpenCall (q .set) (q .key) (q .nonce) (q .header) (q .text) out r out′
+  Opens = OpenCall (q .set) (q .key) (q .nonce) (q .ad) (q .text) out r out′
 
   enough : length (q .text) + 16 ≤ length (room q)
   enough = omega (arith, length-replicate {A = ℕ} (length (q .text) + 16) 0)
@@ -77,20 +78,20 @@ module _ (q : Request) (w : Writable q) (out : List ℕ) (h : length (q .text) +
   seal-is : q .seals ≡ true → Seals → Calls q r out′
   unfolding requestAnswer requestResult
   seal-is s c =
-      let a : r ≡ requestAnswer q = rw s (c .0 ∙ seal-any (q .set) (q .key) (q .nonce) (q .header) (q .text) out (room q) h enough) in
+      let a : r ≡ requestAnswer q = rw s (c .0 ∙ seal-any (q .set) (q .key) (q .nonce) (q .ad) (q .text) out (room q) h enough) in
       record {
         answer-is = a;
-        sized = λ e. record { is-set = seal-accepted (q .set) (q .key) (q .nonce) (q .header) (q .text) out (sym (c .0) ∙ e) .0 .is-set; long = λ z. absurd (subst T (sym s ∙ z) tt) };
+        sized = λ e. record { is-set = seal-accepted (q .set) (q .key) (q .nonce) (q .ad) (q .text) out (sym (c .0) ∙ e) .0 .is-set; long = λ z. absurd (subst T (sym s ∙ z) tt) };
         result-is = λ e.
-            let accepted = seal-accepted (q .set) (q .key) (q .nonce) (q .header) (q .text) out (sym (c .0) ∙ e) in
+            let accepted = seal-accepted (q .set) (q .key) (q .nonce) (q .ad) (q .text) out (sym (c .0) ∙ e) in
             let p = accepted .0 in
             rw (eq-eqb (requestAnswer q) 0 (sym a ∙ e), s)
-            (speaks .seals (q .set) (q .key) (q .nonce) (q .header) (q .text)
+            (speaks .seals (q .set) (q .key) (q .nonce) (q .ad) (q .text)
             (record {
               is-set = p .is-set;
               its-key = record { size = p .key-length; small = w .key-bytes };
               its-nonce = record { size = p .nonce-length; small = w .nonce-bytes };
-              its-data = w .header-bytes;
+              its-data = w .ad-bytes;
               data-limit = p .data-limit;
             })
             (record { bytes = w .text-bytes; limit = accepted .1 .limit }) out (omega (arith, tag-most (q .set) (p .is-set))) r out′ c .1);
@@ -99,17 +100,17 @@ module _ (q : Request) (w : Writable q) (out : List ℕ) (h : length (q .text) +
   open-is : q .seals ≡ false → Opens → Calls q r out′
   unfolding requestAnswer requestResult opening messageOf
   open-is s c =
-      let a : r ≡ requestAnswer q = rw s (c .0 ∙ open-any (q .set) (q .key) (q .nonce) (q .header) (q .text) out (room q) h enough) in
+      let a : r ≡ requestAnswer q = rw s (c .0 ∙ open-any (q .set) (q .key) (q .nonce) (q .ad) (q .text) out (room q) h enough) in
       record {
         answer-is = a;
         sized = λ e.
-            let accepted = open-accepted (q .set) (q .key) (q .nonce) (q .header) (q .text) out (sym (c .0) ∙ e) .0 in
+            let accepted = open-accepted (q .set) (q .key) (q .nonce) (q .ad) (q .text) out (sym (c .0) ∙ e) .0 in
             record { is-set = accepted .0 .is-set; long = λ z. accepted .1 .least };
         result-is = λ e.
-            let b : AllBytes (q .key) (q .nonce) (q .header) (q .text) =
-            record { key-bytes = w .key-bytes; nonce-bytes = w .nonce-bytes; data-bytes = w .header-bytes; text-bytes = w .text-bytes } in
+            let b : AllBytes (q .key) (q .nonce) (q .ad) (q .text) =
+            record { key-bytes = w .key-bytes; nonce-bytes = w .nonce-bytes; data-bytes = w .ad-bytes; text-bytes = w .text-bytes } in
             rw (eq-eqb (requestAnswer q) 0 (sym a ∙ e), s)
-            (sym (ap messageOf (demand-2 .opens (q .set) (q .key) (q .nonce) (q .header) (q .text) out r out′ b c e .0)));
+            (sym (ap messageOf (demand-2 .opens (q .set) (q .key) (q .nonce) (q .ad) (q .text) out r out′ b c e .0)));
       }
 
   pub call-is : Called q out r out′ → Calls q r out′
@@ -120,10 +121,6 @@ module _ (q : Request) (w : Writable q) (out : List ℕ) (h : length (q .text) +
       go false s = open-is s (c .opened s)
 
 -- ---- the reply
-
-pub parse-long : (s : List ℕ) → 4096 < length s → parse s ≡ malformed
-unfolding parse
-parse-long s h = rw (lt-leb (length s) 4096 h)
 
 pub reply-malformed : {p : Parsed} {r : Reply} {b : List ℕ} → p ≡ malformed → Refused 11 r → Replies p r b
 unfolding answerOf acceptedSet resultOf
@@ -146,17 +143,14 @@ reply-accepted {q} {b = b} c z l h =
       result-is = ap (λ (k : ℕ). take k b) l ∙ c .result-is z;
     }
 
-part-length : (b : List ℕ) (i j : ℕ) → i ≤ j → j ≤ length b → length (part b i j) ≡ j - i
-part-length b i j h g = simp (length-take, length-drop) (omega arith)
-
 result-most : (seals : Bool) (set n : ℕ) → Sized seals set n → resultBytes seals set n ≤ n + 16
 result-most true set n s = omega (arith, tag-most set (s .is-set))
 result-most false set n s = omega arith
 
 -- a line that was read, and the call that it asks for
 module _ {s b₀ b out out′ : List ℕ} {a : Asked} {r : ℕ} (read : Read s a b₀ b) (good : a .good ≡ true) (h : length b + 16 ≤ length out) (called : Called (requestOf a b) out r out′) where
-  text-length : length (part b (a .header) (a .text)) ≡ a .text - a .header
-  text-length = let o = read .ordered good in part-length b (a .header) (a .text) (o .2) (o .3)
+  text-length : length (part b (a .ad) (a .text)) ≡ a .text - a .ad
+  text-length = let o = read .ordered good in part-length b (a .ad) (a .text) (o .2) (o .3)
 
   call : Calls (requestOf a b) r out′
   call =
@@ -167,45 +161,18 @@ module _ {s b₀ b out out′ : List ℕ} {a : Asked} {r : ℕ} (read : Read s a
   read-refused n f = rw (read .asked-is good) (reply-refused call n f)
 
   module _ (z : r ≡ 0) where
-    pub read-sized : Sized (a .seals) (a .set) (a .text - a .header)
+    pub read-sized : Sized (a .seals) (a .set) (a .text - a .ad)
     read-sized = subst (Sized (a .seals) (a .set)) text-length (call .sized z)
 
-    pub read-accepted : {n : ℕ} → n ≡ resultBytes (a .seals) (a .set) (a .text - a .header) → length out′ ≡ length out →
+    pub read-accepted : {n : ℕ} → n ≡ resultBytes (a .seals) (a .set) (a .text - a .ad) → length out′ ≡ length out →
         Replies (parse s) (record { answer = 0; set = a .set; length = n }) out′
     read-accepted {n} e l =
         let o = read .ordered good in
-        let m = result-most (a .seals) (a .set) (a .text - a .header) read-sized in
+        let m = result-most (a .seals) (a .set) (a .text - a .ad) read-sized in
         rw (read .asked-is good)
         (reply-accepted call z (e ∙ ap (resultBytes (a .seals) (a .set)) (sym text-length)) (omega (arith, m, e, o .3)))
 
 -- ---- the line of output
-
--- the numbers of the rows are at most 8
-allSmall : List Row → Bool
-allSmall [] = true
-allSmall (r ∷ rows) = leb (r .number) 8 && allSmall rows
-
-either-most : (b : Bool) (x y m : ℕ) → x ≤ m → y ≤ m → cond b x y ≤ m
-either-most true x y m h g = h
-either-most false x y m h g = g
-
-rows-most : (rows : List Row) → allSmall rows ≡ true → answer rows ≤ 8
-unfolding answer allSmall
-rows-most [] h = omega arith
-rows-most (r ∷ rows) h =
-    let b = both (leb (r .number) 8) (allSmall rows) h in
-    either-most (r .when) (r .number) (answer rows) 8 (leb-true (r .number) 8 (b .0)) (rows-most rows (b .1))
-
-pub answer-most : (p : Parsed) → answerOf p < 10000
-unfolding answerOf requestAnswer sealAnswer openAnswer sealRows openRows allSmall
-answer-most (asked q) =
-    omega (
-      arith,
-      either-most (q .seals) _ _ 8
-          (rows-most (sealRows (q .set) (length (q .key)) (length (q .nonce)) (length (q .header)) (length (q .text)) (length (room q))) refl)
-          (rows-most (openRows (q .set) (length (q .key)) (length (q .nonce)) (length (q .header)) (length (q .text)) (length (room q)) (isFalse (opening (q .set) (q .key) (q .nonce) (q .header) (q .text)))) refl),
-    )
-answer-most malformed = omega arith
 
 pub answered : (n k : ℕ) (s b d out : List ℕ) (r : Reply) → Replies (parse s) r b → Puts (lineText n (r .answer) (take (r .length) b)) k d out →
     Answers n s (record { set = r .set; written = k }) d out

@@ -11,13 +11,18 @@ use Rattle.cba_rules.specs.Refusals.{SealCall, OpenCall}
 use Rattle.hub_text.specs.declared.request.Asked.{Asked}
 use Rattle.hub_answer.specs.declared.answer.Reply.{Reply}
 use Rattle.hub_answer.specs.declared.answer.Answer.{Answer}
-use Rattle.hub_text.specs.Writing.{Puts}
-use Rattle.hub_text.specs.Lines.{Request, Parsed, parse}
-use Rattle.hub_answer.specs.Answers.{answerOf, resultOf, acceptedSet, lineFor}
+use Rattle.text.specs.Writing.{Puts}
+use Rattle.hub_rules.specs.Lines.{Request, Parsed, parse}
+use Rattle.hub_rules.specs.Answers.{answerOf, resultOf, acceptedSet, lineFor}
+use Rattle.hub_text.specs.Requests.{bytesRoom}
+
+-- room for a result: a sealing is longer than its message by at most 16 bytes
+abbrev pub resultRoom : ℕ
+resultRoom = bytesRoom + 16
 
 -- the strings of an Asked stand in b, one after the other
 abbrev pub InOrder : Asked → List ℕ → Type 0
-InOrder a b = (a .key ≤ a .nonce) × (a .nonce ≤ a .header) × (a .header ≤ a .text) × (a .text ≤ length b)
+InOrder a b = (a .key ≤ a .nonce) × (a .nonce ≤ a .ad) × (a .ad ≤ a .text) × (a .text ≤ length b)
 
 -- how many bytes an accepted request's result has, whose text has n: a sealing is longer by the tag, a message shorter
 abbrev pub resultBytes : Bool → ℕ → ℕ → ℕ
@@ -33,8 +38,8 @@ pub record Sized (seals : Bool) (set n : ℕ) : Type 0 where
 
 -- the plain call that a request asks for: its answer r, and the output at exit, out′, out being the output at entry
 pub record Called (q : Request) (out : List ℕ) (r : ℕ) (out′ : List ℕ) : Type 0 where
-  pub sealed : q .seals ≡ true → SealCall (q .set) (q .key) (q .nonce) (q .header) (q .text) out r out′
-  pub opened : q .seals ≡ false → OpenCall (q .set) (q .key) (q .nonce) (q .header) (q .text) out r out′
+  pub sealed : q .seals ≡ true → SealCall (q .set) (q .key) (q .nonce) (q .ad) (q .text) out r out′
+  pub opened : q .seals ≡ false → OpenCall (q .set) (q .key) (q .nonce) (q .ad) (q .text) out r out′
 
 -- a reply that refuses
 abbrev pub Refused : ℕ → Reply → Type 0

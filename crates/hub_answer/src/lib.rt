@@ -4,5 +4,3 @@ mod line;
 
 pub use answer::Answer;
 pub use answer::answer_line;
-pub use line::put_byte;
-pub use line::put_number;

@@ -1,111 +1,39 @@
 -- A chunk up to the end of its first line, and chunk after chunk.
 -- Assumes nothing.
 use mathlib.Core.Path.{_≡_, refl, sym, ap, ap₂, subst, _∙_}
-use mathlib.Core.Bool.{Bool, true, false, cond}
-use mathlib.Core.List.{List, [], _∷_, _++_, append-assoc, append-nil}
-use Prim.Native.Nat.{ℕ, suc, _+_, _-_, _<_, _≤_, min}
+use mathlib.Core.Bool.{true, false}
+use mathlib.Core.List.{List, [], _∷_, _++_, append-assoc}
+use Prim.Native.Nat.{ℕ, _+_, _-_, _<_, _≤_, min}
 use native.Mathlib.Omega.{arith}
-use borrow.Author.Tests.{eqb-true}
-use lib.Dec.{eqb}
 use lib.ListN.{length, take, drop, length-append, length-take, length-drop, take-append-drop, drop-of-length-le}
 use lib.Seq.{take-all, take-at, take-add, drop-drop, length-take-le}
 use mathlib.Core.Logic.{⊎-elim}
-use Rattle.hub_answer.proofs.LineLaws.{middle-length, puts-then}
+use Rattle.text.proofs.WritingLaws.{middle-length, puts-most, puts-then}
 use Rattle.octets.proofs.Parts.{put-at, to-end}
-use Rattle.hub_text.specs.Lines.{lengthBefore}
-use Rattle.hub_text.specs.Writing.{Puts}
+use Rattle.hub_rules.specs.Lines.{lengthBefore}
+use Rattle.text.specs.Writing.{Puts}
 use Rattle.hub_run.specs.declared.state.Hub.{Hub}
 use Rattle.hub_run.specs.declared.chunk.Fed.{Fed}
-use Rattle.hub_run.specs.Stream.{State, over, ended, endSays, longer, next, says, after, output, overlaid, buffer, usedFrom, chunkUsed}
+use Rattle.hub_rules.specs.Stream.{lineRoom, lineKept, State, over, ended, endSays, longer, next, after, output, overlaid, buffer, usedFrom, chunkUsed}
 use Rattle.hub_run.specs.Values.{stateOf, Sound, Goes, Keeps, FeedsLine, FeedsChunk}
-use Rattle.hub_run.proofs.CuttingLaws.{after-append, output-append, over-stays, kept-more}
-use Rattle.hub_run.proofs.BufferLaws.{buffer-append, over-keeps, end-keeps, piece-kept}
-use Rattle.hub_run.proofs.UsedLaws.{first-all, first-line, goes-on, stops, none-left, line-used}
+use Rattle.hub_rules.proofs.StreamLaws.{after-append, output-append, over-stays, longer-over, piece, with-end, with-line}
+use Rattle.hub_rules.proofs.BufferLaws.{buffer-append, over-keeps, end-keeps, piece-kept}
+use Rattle.hub_rules.proofs.UsedLaws.{first-all, first-line, goes-on, stops, none-left, line-used}
 use Rattle.octets.proofs.Tests.{le-or-lt}
-
--- ---- more of the line
-
-longer-longer : (st : State) (a b : List ℕ) → longer (longer st a) b ≡ longer st (a ++ b)
-unfolding longer
-longer-longer st a b =
-    ap (λ (x : List ℕ). record { lines = st .lines; wrong = st .wrong; counts = st .counts; line = x })
-    (kept-more (st .line ++ a) b ∙ ap (take 4097) (append-assoc (st .line) a b))
-
-longer-none : (st : State) → length (st .line) ≤ 4097 → longer st [] ≡ st
-unfolding longer
-longer-none st h =
-    ap (λ (x : List ℕ). record { lines = st .lines; wrong = st .wrong; counts = st .counts; line = x })
-    (ap (take 4097) (append-nil (st .line)) ∙ take-all 4097 (st .line) h)
-
-pub longer-over : (st : State) (s : List ℕ) → over (longer st s) ≡ over st
-unfolding longer over
-longer-over st s = refl
-
-longer-most : (st : State) (s : List ℕ) → length (longer st s .line) ≤ 4097
-unfolding longer
-longer-most st s = omega (arith, length-take 4097 (st .line ++ s))
-
-next-more : (st : State) (c : ℕ) → over st ≡ false → eqb c 10 ≡ false → (next st c ≡ longer st (c ∷ [])) × (says st c ≡ [])
-unfolding next says
-next-more st c o e = rw (o, e) (refl, refl)
-
--- a piece without LF
-pub piece : (s : List ℕ) (st : State) → over st ≡ false → length (st .line) ≤ 4097 →
-    (after st (take (lengthBefore 10 s) s) ≡ longer st (take (lengthBefore 10 s) s)) × (output st (take (lengthBefore 10 s) s) ≡ [])
-unfolding lengthBefore after output
-piece [] st o h = (sym (longer-none st h), refl)
-piece (c ∷ s) st o h = go (eqb c 10) refl (piece s (longer st (c ∷ [])) (longer-over st (c ∷ []) ∙ o) (longer-most st (c ∷ [])))
-  where
-    go : (b : Bool) → eqb c 10 ≡ b →
-        (after (longer st (c ∷ [])) (take (lengthBefore 10 s) s) ≡ longer (longer st (c ∷ [])) (take (lengthBefore 10 s) s)) × (output (longer st (c ∷ [])) (take (lengthBefore 10 s) s) ≡ []) →
-        (after st (take (cond b 0 (suc (lengthBefore 10 s))) (c ∷ s)) ≡ longer st (take (cond b 0 (suc (lengthBefore 10 s))) (c ∷ s)))
-        × (output st (take (cond b 0 (suc (lengthBefore 10 s))) (c ∷ s)) ≡ [])
-    go true e ih = (sym (longer-none st h), refl)
-    go false e ih =
-        let n = next-more st c o e in
-        let p = take (lengthBefore 10 s) s in
-        (ap (λ (x : State). after x p) (n .0) ∙ ih .0 ∙ longer-longer st (c ∷ []) p, ap₂ (λ (x : List ℕ) (y : State). x ++ output y p) (n .1) (n .0) ∙ ih .1)
-
--- a line with its LF
-with-end : (s : List ℕ) → lengthBefore 10 s < length s → take (lengthBefore 10 s + 1) s ≡ take (lengthBefore 10 s) s ++ (10 ∷ [])
-unfolding lengthBefore
-with-end [] h = absurd (omega (arith, h))
-with-end (c ∷ s) h = go (eqb c 10) refl (with-end s) h
-  where
-    go : (b : Bool) → eqb c 10 ≡ b → (lengthBefore 10 s < length s → take (lengthBefore 10 s + 1) s ≡ take (lengthBefore 10 s) s ++ (10 ∷ [])) →
-        cond b 0 (suc (lengthBefore 10 s)) < suc (length s) →
-        take (cond b 0 (suc (lengthBefore 10 s)) + 1) (c ∷ s) ≡ take (cond b 0 (suc (lengthBefore 10 s))) (c ∷ s) ++ (10 ∷ [])
-    go true e ih h = ap (λ (x : ℕ). x ∷ []) (eqb-true c 10 e)
-    go false e ih h = ap (λ (x : ℕ). take x (c ∷ s)) {x = suc (lengthBefore 10 s) + 1} {y = suc (lengthBefore 10 s + 1)} (omega arith) ∙ ap (λ (x : List ℕ). c ∷ x) (ih (omega (arith, h)))
-
-line-end : (st : State) → over st ≡ false → (after st (10 ∷ []) ≡ ended st) × (output st (10 ∷ []) ≡ endSays st)
-unfolding after output next says
-line-end st o = rw o (refl, append-nil (endSays st))
-
-pub with-line : (s : List ℕ) (st : State) → over st ≡ false → length (st .line) ≤ 4097 → lengthBefore 10 s < length s →
-    let w = longer st (take (lengthBefore 10 s) s) in
-    (after st (take (lengthBefore 10 s + 1) s) ≡ ended w) × (output st (take (lengthBefore 10 s + 1) s) ≡ endSays w)
-with-line s st o h l =
-    let p = take (lengthBefore 10 s) s in
-    let e = piece s st o h in
-    let f = line-end (longer st p) (longer-over st p ∙ o) in (
-      ap (after st) (with-end s l) ∙ after-append st p (10 ∷ []) ∙ ap (λ (x : State). after x (10 ∷ [])) (e .0) ∙ f .0,
-      ap (output st) (with-end s l) ∙ output-append st p (10 ∷ []) ∙ ap₂ (λ (x : List ℕ) (y : State). x ++ output y (10 ∷ [])) (e .1) (e .0) ∙ f .1,
-    )
 
 -- ---- what the code keeps of a piece: n bytes of it, over the buffer from the line's end on
 
-kept-piece : (a p : List ℕ) (n : ℕ) → length a ≤ 4097 → n ≡ min (length p) (4097 - length a) → a ++ take n p ≡ take 4097 (a ++ p)
+kept-piece : (a p : List ℕ) (n : ℕ) → length a ≤ lineKept → n ≡ min (length p) (lineKept - length a) → a ++ take n p ≡ take lineKept (a ++ p)
 kept-piece a p n h e =
     ⊎-elim
-    (λ (q : length p ≤ 4097 - length a).
-    ap (λ (x : List ℕ). a ++ x) (take-all n p (omega (arith, e, q))) ∙ sym (take-all 4097 (a ++ p) (omega (arith, length-append a p, h, q))))
-    (λ (q : 4097 - length a < length p).
+    (λ (q : length p ≤ lineKept - length a).
+    ap (λ (x : List ℕ). a ++ x) (take-all n p (omega (arith, e, q))) ∙ sym (take-all lineKept (a ++ p) (omega (arith, length-append a p, h, q))))
+    (λ (q : lineKept - length a < length p).
     sym
-    (ap (λ (x : List ℕ). take 4097 (a ++ x)) (sym (take-append-drop n p))
-    ∙ ap (take 4097) (sym (append-assoc a (take n p) (drop n p)))
-    ∙ take-at (a ++ take n p) (drop n p) 4097 (length-append a (take n p) ∙ omega (arith, length-take n p, e, q, h))))
-    (le-or-lt (length p) (4097 - length a))
+    (ap (λ (x : List ℕ). take lineKept (a ++ x)) (sym (take-append-drop n p))
+    ∙ ap (take lineKept) (sym (append-assoc a (take n p) (drop n p)))
+    ∙ take-at (a ++ take n p) (drop n p) lineKept (length-append a (take n p) ∙ omega (arith, length-take n p, e, q, h))))
+    (le-or-lt (length p) (lineKept - length a))
 
 take-least : (s : List ℕ) (k n : ℕ) → n ≡ min (length s) k → take n s ≡ take k s
 take-least s k n e =
@@ -114,7 +42,7 @@ take-least s k n e =
     (λ (q : k < length s). ap (λ (i : ℕ). take i s) {x = n} {y = k} (omega (arith, e, q)))
     (le-or-lt (length s) k)
 
-module _ (h : Hub) (line piece last : List ℕ) (n : ℕ) (s : Sound h line) (e : n ≡ min (length piece) (4097 - h .length)) (w : last ≡ take n piece ++ drop (length (take n piece)) (take (length line - h .length) (drop (h .length) line))) where
+module _ (h : Hub) (line piece last : List ℕ) (n : ℕ) (s : Sound h line) (e : n ≡ min (length piece) (lineKept - h .length)) (w : last ≡ take n piece ++ drop (length (take n piece)) (take (length line - h .length) (drop (h .length) line))) where
   pub keeps : let line′ = take (h .length) line ++ (last ++ drop (length line - h .length) (drop (h .length) line)) in
       Keeps h line piece (record { lines = h .lines; wrong = h .wrong; counts = h .counts; length = h .length + n }) line′
   unfolding longer
@@ -140,18 +68,14 @@ module _ (h : Hub) (line piece last : List ℕ) (n : ℕ) (s : Sound h line) (e 
             };
         state-is =
             ap (λ (x : List ℕ). record { lines = h .lines; wrong = h .wrong; counts = h .counts; line = x })
-            (ap (take (at + n)) w′ ∙ take-at (a ++ t) (drop (at + length t) line) (at + n) l ∙ kept-piece a piece n (omega (arith, la, s .line-most)) (e ∙ ap (λ (x : ℕ). min (length piece) (4097 - x)) (sym la)));
-        line-is = put ∙ ap (λ (x : List ℕ). overlaid at x line) (take-least piece (4097 - at) n e);
+            (ap (take (at + n)) w′ ∙ take-at (a ++ t) (drop (at + length t) line) (at + n) l ∙ kept-piece a piece n (omega (arith, la, s .line-most)) (e ∙ ap (λ (x : ℕ). min (length piece) (lineKept - x)) (sym la)));
+        line-is = put ∙ ap (λ (x : List ℕ). overlaid at x line) (take-least piece (lineKept - at) n e);
       }
 
 -- ---- feeding
 
--- a writer writes no more than it was lent
-puts-most : (s d out : List ℕ) (r : ℕ) → Puts s r d out → r ≤ length out
-puts-most s d out r p = omega (arith, p .0, ap length (p .1), length-append s (drop r d))
-
 module _ (h : Hub) (line chunk : List ℕ) (s : Sound h line) where
-  line-size : length (take (h .length) line) ≤ 4097
+  line-size : length (take (h .length) line) ≤ lineKept
   line-size = omega (arith, length-take (h .length) line, s .line-most)
 
   pub feeds-over : (d : List ℕ) → over (stateOf h line) ≡ true → FeedsLine h line chunk (record { hub = h; used = length chunk; written = 0 }) line d d
@@ -172,7 +96,7 @@ module _ (h : Hub) (line chunk : List ℕ) (s : Sound h line) where
     piece-is =
         let at : length (take (h .length) line) ≡ h .length = length-take-le (h .length) line (omega (arith, s .room, s .line-most)) in
         t .line-is
-        ∙ ap (λ (x : ℕ). overlaid x (take (4097 - x) (take n chunk)) line) (sym at)
+        ∙ ap (λ (x : ℕ). overlaid x (take (lineKept - x) (take n chunk)) line) (sym at)
         ∙ rw b (sym (piece-kept chunk (stateOf h line) line o line-size (s .room)))
 
     pub feeds-piece : (d : List ℕ) → n ≡ length chunk → FeedsLine h line chunk (record { hub = k; used = n; written = 0 }) line′ d d
@@ -245,7 +169,7 @@ feeding-none h line chunk d b s =
     }
 
 module _ {h : Hub} {line₀ chunk d : List ℕ} {next : Hub} {used written : ℕ} {line out : List ℕ} (f : Feeding h line₀ chunk d next used written line out) where
-  module _ (r : Fed) (line′ last : List ℕ) (l : length line′ ≡ length line) (m : length last ≡ length (take (length out - written) (drop written out))) (u : used < length chunk) (q : 4200 ≤ length out - written) where
+  module _ (r : Fed) (line′ last : List ℕ) (l : length line′ ≡ length line) (m : length last ≡ length (take (length out - written) (drop written out))) (u : used < length chunk) (q : lineRoom ≤ length out - written) where
     turn : FeedsLine next line (drop used chunk) r line′ (take (length out - written) (drop written out)) last →
         Feeding h line₀ chunk d (r .hub) (used + r .used) (written + r .written) line′ (take written out ++ (last ++ drop (length out - written) (drop written out)))
     turn w =
@@ -256,8 +180,8 @@ module _ {h : Hub} {line₀ chunk d : List ℕ} {next : Hub} {used written : ℕ
         let e : take (used + r .used) chunk ≡ a ++ p = take-add used (r .used) chunk in
         let part = take (length out - written) (drop written out) in
         let lp : length part ≡ length out - written = length-take (length out - written) (drop written out) ∙ omega (arith, length-drop written out) in
-        let whole = middle-length out last written (f .written-most) m in
         let room : written + r .written ≤ length out = omega (arith, w .written-most, lp, f .written-most) in
+        let whole = middle-length out last written (r .written) room m in
         record {
           used-most = omega (arith, w .used-most, length-drop used chunk, u);
           written-most = omega (arith, room, whole);
@@ -319,7 +243,7 @@ module _ {h : Hub} {line₀ chunk d : List ℕ} {next : Hub} {used written : ℕ
         line-is = f .line-is;
       }
 
-  pub feeding-full : 4200 ≤ length d → length out - written < 4200 → FeedsChunk h line₀ chunk (record { hub = next; used = used; written = written }) line d out
+  pub feeding-full : lineRoom ≤ length d → length out - written < lineRoom → FeedsChunk h line₀ chunk (record { hub = next; used = used; written = written }) line d out
   feeding-full m q =
       let some : 0 < used = ⊎-elim (λ (z : used ≤ 0). absurd (omega (arith, m, q, f .same-out, f .none (omega (arith, z))))) (λ (z : 0 < used). z) (le-or-lt used 0) in
       record {

@@ -2,19 +2,20 @@
 -- Assumes nothing.
 use mathlib.Core.Path.{_≡_, refl, sym, ap, subst, _∙_}
 use mathlib.Core.Bool.{Bool, true, false, not, _&&_, _||_}
-use mathlib.Core.List.{List, [], _∷_, _++_, append-assoc, append-nil}
+use mathlib.Core.List.{List, [], _∷_, _++_, append-assoc}
 use Prim.Native.Nat.{ℕ, suc, _+_, _-_, _*_, _<_, _≤_}
 use native.Mathlib.Omega.{arith}
 use borrow.Author.Tests.{eq-eqb, ne-eqb}
 use lib.Dec.{T, eqb}
-use lib.ListN.{length, getD, take, drop, length-append, length-take, take-append-drop}
+use lib.ListN.{length, getD, take, drop, length-take, take-append-drop}
 use lib.Seq.{drop-append-le, take-all, take-suc, length-take-le}
-use Rattle.hub_text.specs.Numerals.{decimal}
-use Rattle.hub_text.specs.Writing.{Puts}
-use Rattle.hub_answer.proofs.LineLaws.{middle-length, puts-then}
-use Rattle.hub_run.specs.Whole.{summaryHead, rowFor}
+use Rattle.text.specs.Numerals.{decimal}
+use Rattle.text.specs.Writing.{Puts}
+use Rattle.hub_rules.proofs.StreamLaws.{rows-append, one-row}
+use Rattle.text.proofs.WritingLaws.{middle-length, puts-most, puts-then}
+use Rattle.hub_rules.specs.Whole.{summaryHead, rowFor}
 use Rattle.hub_run.specs.declared.state.Hub.{Hub}
-use Rattle.hub_run.specs.Stream.{State, over, ended, endSays, pending, rowsOf, summary, ending}
+use Rattle.hub_rules.specs.Stream.{State, over, ended, endSays, pending, rowsOf, summary, ending}
 use Rattle.hub_run.specs.Values.{stateOf, Goes}
 
 -- ---- a row
@@ -27,24 +28,11 @@ pub row-some : (set n r : ℕ) (d out : List ℕ) → (n ≡ 0 → ⊥) → Puts
 unfolding rowFor
 row-some set n r d out e w = rw (ne-eqb n 0 e) (subst (λ (t : List ℕ). Puts t r d out) (append-assoc (decimal set) (32 ∷ decimal n) (10 ∷ [])) w)
 
--- ---- the rows of the first i sets, from set j on
-
-rows-append : (j : ℕ) (a b : List ℕ) → rowsOf j (a ++ b) ≡ rowsOf j a ++ rowsOf (j + length a) b
-unfolding rowsOf
-rows-append j [] b = ap (λ (k : ℕ). rowsOf k b) {x = j} {y = j + 0} (omega arith)
-rows-append j (c ∷ a) b =
-    ap (λ (x : List ℕ). rowFor j c ++ x) (rows-append (j + 1) a b ∙ ap (λ (k : ℕ). rowsOf (j + 1) a ++ rowsOf k b) {x = j + 1 + length a} {y = j + suc (length a)} (omega arith))
-    ∙ sym (append-assoc (rowFor j c) (rowsOf (j + 1) a) (rowsOf (j + suc (length a)) b))
-
-one-row : (j c : ℕ) → rowsOf j (c ∷ []) ≡ rowFor j c
-unfolding rowsOf
-one-row j c = append-nil (rowFor j c)
-
 -- ---- the loop over the sets
 
 pub record Rows (cs d : List ℕ) (at i : ℕ) (out : List ℕ) : Type 0 where
   pub sets : i ≤ 10
-  pub at-most : at ≤ 10 * i
+  pub at-most : at ≤ 12 * i
   pub same-out : length out ≡ length d
   pub said : Puts (rowsOf 1 (take i cs)) at d out
 
@@ -52,7 +40,7 @@ pub rows-none : (cs d : List ℕ) → Rows cs d 0 0 d
 unfolding rowsOf
 rows-none cs d = record { sets = omega arith; at-most = omega arith; same-out = refl; said = (refl, refl) }
 
-pub rows-turn : {cs d : List ℕ} {at i : ℕ} {out : List ℕ} → Rows cs d at i out → length cs ≡ 10 → 100 ≤ length d → i < 10 → (r : ℕ) (last : List ℕ) → r ≤ 10 →
+pub rows-turn : {cs d : List ℕ} {at i : ℕ} {out : List ℕ} → Rows cs d at i out → length cs ≡ 10 → 120 ≤ length d → i < 10 → (r : ℕ) (last : List ℕ) → r ≤ 12 →
     length last ≡ length (take (length out - at) (drop at out)) →
     Puts (rowFor (i + 1) (getD cs i 0)) r (take (length out - at) (drop at out)) last →
     Rows cs d (at + r) (i + 1) (take at out ++ (last ++ drop (length out - at) (drop at out)))
@@ -63,16 +51,17 @@ rows-turn {cs} {d} {at} {i} {out} v l m h r last b k w =
     (ap (rowsOf 1) (ap (λ (n : ℕ). take n cs) {x = i + 1} {y = suc i} (omega arith) ∙ take-suc cs i 0 (omega (arith, l, h)))
     ∙ rows-append 1 (take i cs) (getD cs i 0 ∷ [])
     ∙ ap (λ (x : List ℕ). rowsOf 1 (take i cs) ++ x) (ap (λ (n : ℕ). rowsOf n (getD cs i 0 ∷ [])) {x = 1 + length (take i cs)} {y = i + 1} (omega (arith, li)) ∙ one-row (i + 1) (getD cs i 0))) in
+    let room : at + r ≤ length out = omega (arith, v .at-most, v .same-out, m, h, b) in
     record {
       sets = omega arith;
       at-most = omega (arith, v .at-most, b);
-      same-out = middle-length out last at (omega (arith, v .at-most, v .same-out, m, h)) k ∙ v .same-out;
+      same-out = middle-length out last at r room k ∙ v .same-out;
       said =
           subst (λ (x : List ℕ). Puts x (at + r) d (take at out ++ (last ++ drop (length out - at) (drop at out)))) e
-          (puts-then d out (rowsOf 1 (take i cs)) (rowFor (i + 1) (getD cs i 0)) last at r (v .said) (omega (arith, v .at-most, v .same-out, m, h, b)) w);
+          (puts-then d out (rowsOf 1 (take i cs)) (rowFor (i + 1) (getD cs i 0)) last at r (v .said) room w);
     }
 
-pub rows-all : {cs d : List ℕ} {at i : ℕ} {out : List ℕ} → Rows cs d at i out → length cs ≡ 10 → 10 ≤ i → (at ≤ 100) × Puts (rowsOf 1 cs) at d out
+pub rows-all : {cs d : List ℕ} {at i : ℕ} {out : List ℕ} → Rows cs d at i out → length cs ≡ 10 → 10 ≤ i → (at ≤ 120) × Puts (rowsOf 1 cs) at d out
 rows-all {cs} {d} {at} {i} {out} v l h = (omega (arith, v .at-most, v .sets), subst (λ (x : List ℕ). Puts (rowsOf 1 x) at d out) (take-all i cs (omega (arith, l, h))) (v .said))
 
 -- ---- the end of the input
@@ -111,7 +100,7 @@ pub goes-within : {st : State} {s : List ℕ} {h : Hub} {line last : List ℕ} {
     Goes st s h line r (take n d) last → (r ≤ n) × Goes st s h line r d (last ++ drop n d)
 goes-within {s = s} {last = last} {r = r} d n h l g =
     let w = g .said in
-    let m : r ≤ length (take n d) = omega (arith, w .0, ap length (w .1), length-append s (drop r (take n d)), l) in
+    let m : r ≤ length (take n d) = omega (arith, puts-most s (take n d) last r w, l) in
     let p =
     ap (λ (x : List ℕ). x ++ drop n d) (w .1)
     ∙ append-assoc s (drop r (take n d)) (drop n d)

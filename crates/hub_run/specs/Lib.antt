@@ -1,3 +1,1 @@
-pub mod Whole
-pub mod Stream
 pub mod Values

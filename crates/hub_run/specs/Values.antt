@@ -3,13 +3,22 @@
 use mathlib.Core.Path.{_≡_}
 use mathlib.Core.Bool.{Bool}
 use mathlib.Core.List.{List}
-use Prim.Native.Nat.{ℕ, _-_, _<_, _≤_}
+use Prim.Native.Nat.{ℕ, _+_, _-_, _<_, _≤_}
 use lib.ListN.{length, take, getD}
-use Rattle.hub_text.specs.Writing.{Puts}
+use Rattle.text.specs.Writing.{Puts}
 use Rattle.hub_run.specs.declared.state.Hub.{Hub}
 use Rattle.hub_run.specs.declared.line.Step.{Step}
 use Rattle.hub_run.specs.declared.chunk.Fed.{Fed}
-use Rattle.hub_run.specs.Stream.{State, begin, over, ended, endSays, longer, after, output, overlaid, buffer, lineUsed, chunkUsed, pending}
+use Rattle.hub_rules.specs.Stream.{lineRoom, lineKept, State, begin, over, ended, endSays, longer, after, output, overlaid, buffer, lineUsed, chunkUsed, pending}
+use Rattle.hub_rules.specs.Whole.{lastLine}
+
+-- room for the summary: its heading, and ten rows of at most 12 bytes
+abbrev pub summaryRoom : ℕ
+summaryRoom = 133
+
+-- room for what is said at the end: a last line, and the summary
+abbrev pub endRoom : ℕ
+endRoom = lineRoom + summaryRoom
 
 abbrev pub stateOf : Hub → List ℕ → State
 stateOf h line = record { lines = h .lines; wrong = h .wrong; counts = h .counts; line = take (h .length) line }
@@ -20,14 +29,14 @@ Below s n = (i : ℕ) → getD s i 0 < n
 
 -- what holds of every state that a run comes to
 pub record Sound (h : Hub) (line : List ℕ) : Type 0 where
-  pub room : 4097 ≤ length line
-  pub line-most : h .length ≤ 4097
-  pub lines-most : h .lines ≤ 10000
+  pub room : lineKept ≤ length line
+  pub line-most : h .length ≤ lineKept
+  pub lines-most : h .lines ≤ lastLine + 1
   pub counts-most : (i : ℕ) → getD (h .counts) i 0 ≤ h .lines - 1
 
 -- the state before the first byte, with any buffer
 abbrev pub Begins : Hub → Type 0
-Begins h = (line : List ℕ) → 4097 ≤ length line → Sound h line × (stateOf h line ≡ begin)
+Begins h = (line : List ℕ) → lineKept ≤ length line → Sound h line × (stateOf h line ≡ begin)
 
 -- the answers of two tests, with any buffer
 abbrev pub IsOver : Hub → Bool → Type 0
@@ -50,7 +59,7 @@ Ends h line r d out = Goes (ended (stateOf h line)) (endSays (stateOf h line)) (
 pub record Keeps (h : Hub) (line piece : List ℕ) (r : Hub) (line′ : List ℕ) : Type 0 where
   pub sound : Sound r line′
   pub state-is : stateOf r line′ ≡ longer (stateOf h line) piece
-  pub line-is : line′ ≡ overlaid (h .length) (take (4097 - h .length) piece) line
+  pub line-is : line′ ≡ overlaid (h .length) (take (lineKept - h .length) piece) line
 
 -- what feeding n bytes of a chunk promises; where it has a byte, one at least is used up
 pub record Feeds (n : ℕ) (h : Hub) (line chunk : List ℕ) (r : Fed) (line′ d out : List ℕ) : Type 0 where

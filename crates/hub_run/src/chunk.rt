@@ -1,11 +1,14 @@
 // A chunk of the input, of any length.
 use crate::line::end_line;
 use crate::state::Hub;
+use crate::state::LINE_KEPT;
+use crate::state::LINE_ROOM;
 use crate::state::is_over;
 ghost use mathlib.Core.Path.{_≡_};
 ghost use Prim.Native.Nat.{_≤_, min};
 ghost use lib.ListN.{length};
 ghost use Rattle.hub_run.specs.Values.{Sound, Keeps, FeedsLine, FeedsChunk};
+ghost use Rattle.hub_rules.specs.Stream.{lineRoom};
 
 // The next state, how many bytes of the chunk are used up, and how many are said.
 pub struct Fed {
@@ -20,14 +23,14 @@ fn least(a: usize, b: usize) -> usize
     if a < b { a } else { b }
 }
 
-// More of the line, of which no more than 4,097 bytes are kept.
+// More of the line, as much of it as is kept.
 fn keep(h: Hub, line: &mut [u8], piece: &[u8]) -> Hub
     requires { ⌜ Sound h (now line) ⌝ }
     ensures { λ r. ⌜ Keeps h (now (line .entry)) (now (piece .entry)) r (now (line .exit)) ⌝ }
 {
     let at = h.length;
     let counts = h.counts;
-    let n = least(piece.len(), 4097 - at);
+    let n = least(piece.len(), LINE_KEPT - at);
     octets::put(&mut line[at..], &piece[..n]);
     Hub {
         lines: h.lines,
@@ -39,7 +42,7 @@ fn keep(h: Hub, line: &mut [u8], piece: &[u8]) -> Hub
 
 // The chunk up to the end of its first line, or all of it.
 fn feed_line(h: Hub, line: &mut [u8], chunk: &[u8], out: &mut [u8]) -> Fed
-    requires { ⌜ 4200 ≤ length (now out) ⌝ }
+    requires { ⌜ lineRoom ≤ length (now out) ⌝ }
     requires { ⌜ Sound h (now line) ⌝ }
     ensures { λ r. ⌜ FeedsLine h (now (line .entry)) (now (chunk .entry)) r (now (line .exit)) (now (out .entry)) (now (out .exit)) ⌝ }
 {
@@ -71,7 +74,7 @@ fn feed_line(h: Hub, line: &mut [u8], chunk: &[u8], out: &mut [u8]) -> Fed
 
 // The chunk as far as there is room in out for a line of output more.
 pub fn feed(h: Hub, line: &mut [u8], chunk: &[u8], out: &mut [u8]) -> Fed
-    requires { ⌜ 4200 ≤ length (now out) ⌝ }
+    requires { ⌜ lineRoom ≤ length (now out) ⌝ }
     requires { ⌜ Sound h (now line) ⌝ }
     ensures { λ r. ⌜ FeedsChunk h (now (line .entry)) (now (chunk .entry)) r (now (line .exit)) (now (out .entry)) (now (out .exit)) ⌝ }
 {
@@ -79,7 +82,7 @@ pub fn feed(h: Hub, line: &mut [u8], chunk: &[u8], out: &mut [u8]) -> Fed
     let mut used = 0;
     let mut written = 0;
     while used < chunk.len() {
-        if out.len() - written < 4200 {
+        if out.len() - written < LINE_ROOM {
             break;
         }
         let f = feed_line(next, line, &chunk[used..], &mut out[written..]);

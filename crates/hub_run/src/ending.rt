@@ -2,16 +2,17 @@
 use crate::line::Step;
 use crate::line::end_line;
 use crate::state::Hub;
+use crate::state::LINE_ROOM;
 use crate::state::is_over;
 use crate::summary::put_rows;
 ghost use mathlib.Core.Path.{_≡_};
 ghost use mathlib.Core.Bool.{false};
 ghost use Prim.Native.Nat.{_≤_};
 ghost use lib.ListN.{length};
-ghost use Rattle.hub_text.specs.Writing.{Puts};
-ghost use Rattle.hub_run.specs.Whole.{summaryHead};
-ghost use Rattle.hub_run.specs.Stream.{over, summary, ending};
-ghost use Rattle.hub_run.specs.Values.{Sound, IsPending, Ends, stateOf};
+ghost use Rattle.text.specs.Writing.{Puts};
+ghost use Rattle.hub_rules.specs.Whole.{summaryHead};
+ghost use Rattle.hub_rules.specs.Stream.{lineRoom, over, summary, ending};
+ghost use Rattle.hub_run.specs.Values.{summaryRoom, endRoom, Sound, IsPending, Ends, stateOf};
 
 // Whether the input ended within a line, or without a first line.
 fn is_pending(h: Hub) -> bool
@@ -37,9 +38,9 @@ fn put_head(out: &mut [u8]) -> usize
 
 // The summary, or nothing where the first line was wrong.
 fn put_summary(h: Hub, line: &[u8], out: &mut [u8]) -> usize
-    requires { ⌜ 113 ≤ length (now out) ⌝ }
+    requires { ⌜ summaryRoom ≤ length (now out) ⌝ }
     requires { ⌜ Sound h (now line) ⌝ }
-    ensures { λ r. ⌜ (r ≤ 113) × Puts (summary (stateOf h (now (line .entry)))) r (now (out .entry)) (now (out .exit)) ⌝ }
+    ensures { λ r. ⌜ (r ≤ summaryRoom) × Puts (summary (stateOf h (now (line .entry)))) r (now (out .entry)) (now (out .exit)) ⌝ }
 {
     if h.wrong {
         return 0;
@@ -52,18 +53,18 @@ fn put_summary(h: Hub, line: &[u8], out: &mut [u8]) -> usize
 // The end of a last line, with room left for the summary.
 fn end_last(h: Hub, line: &[u8], out: &mut [u8]) -> Step
     requires { ⌜ over (stateOf h (now line)) ≡ false ⌝ }
-    requires { ⌜ 4200 ≤ length (now out) ⌝ }
+    requires { ⌜ lineRoom ≤ length (now out) ⌝ }
     requires { ⌜ Sound h (now line) ⌝ }
-    ensures { λ r. ⌜ (r .written ≤ 4200) × Ends h (now (line .entry)) r (now (out .entry)) (now (out .exit)) ⌝ }
+    ensures { λ r. ⌜ (r .written ≤ lineRoom) × Ends h (now (line .entry)) r (now (out .entry)) (now (out .exit)) ⌝ }
 {
-    end_line(h, line, &mut out[..4200])
+    end_line(h, line, &mut out[..LINE_ROOM])
 }
 
 // What is said at the end of the input.
 pub fn finish(h: Hub, line: &[u8], out: &mut [u8]) -> usize
-    requires { ⌜ 4400 ≤ length (now out) ⌝ }
+    requires { ⌜ endRoom ≤ length (now out) ⌝ }
     requires { ⌜ Sound h (now line) ⌝ }
-    ensures { λ r. ⌜ (r ≤ 4400) × Puts (ending (stateOf h (now (line .entry)))) r (now (out .entry)) (now (out .exit)) ⌝ }
+    ensures { λ r. ⌜ (r ≤ endRoom) × Puts (ending (stateOf h (now (line .entry)))) r (now (out .entry)) (now (out .exit)) ⌝ }
 {
     if !is_pending(h) {
         return put_summary(h, line, out);

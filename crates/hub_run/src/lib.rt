@@ -9,6 +9,7 @@ pub use chunk::Fed;
 pub use chunk::feed;
 pub use ending::finish;
 pub use state::Hub;
+pub use state::LINE_KEPT;
 pub use state::begin;
 pub use state::is_over;
 pub use state::put_heading;

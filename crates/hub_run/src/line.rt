@@ -3,12 +3,12 @@ use crate::state::Hub;
 use hub_answer::answer_line;
 ghost use mathlib.Core.Path.{_≡_};
 ghost use mathlib.Core.Bool.{false};
-ghost use Prim.Native.Nat.{_<_, _≤_};
+ghost use Prim.Native.Nat.{_+_, _<_, _≤_};
 ghost use lib.ListN.{length};
 ghost use Rattle.octets.specs.Strings.{eqs};
-ghost use Rattle.hub_text.specs.Writing.{Puts};
-ghost use Rattle.hub_run.specs.Whole.{firstLine, wrongFirst};
-ghost use Rattle.hub_run.specs.Stream.{over, counted};
+ghost use Rattle.text.specs.Writing.{Puts};
+ghost use Rattle.hub_rules.specs.Whole.{lastLine, firstLine, wrongFirst};
+ghost use Rattle.hub_rules.specs.Stream.{lineRoom, over, counted};
 ghost use Rattle.hub_run.specs.Values.{Below, Sound, Ends, stateOf};
 
 // The next state, and how many bytes are said.
@@ -34,7 +34,7 @@ fn put_wrong(out: &mut [u8]) -> usize
 
 // The counts with one more for a set; 0 is none.
 fn count(counts: [u32; 10], set: u32) -> [u32; 10]
-    requires { ⌜ Below counts 10000 ⌝ }
+    requires { ⌜ Below counts (lastLine + 1) ⌝ }
     ensures { λ r. ⌜ r ≡ counted 1 set counts ⌝ }
 {
     let mut next = counts;
@@ -78,7 +78,7 @@ fn end_first(h: Hub, line: &[u8], out: &mut [u8]) -> Step
 
 // The end of a later line.
 fn end_later(h: Hub, line: &[u8], out: &mut [u8]) -> Step
-    requires { ⌜ (0 < h .lines) × (h .lines < 10000) × (4200 ≤ length (now out)) ⌝ }
+    requires { ⌜ (0 < h .lines) × (h .lines ≤ lastLine) × (lineRoom ≤ length (now out)) ⌝ }
     requires { ⌜ Sound h (now line) ⌝ }
     ensures { λ r. ⌜ Ends h (now (line .entry)) r (now (out .entry)) (now (out .exit)) ⌝ }
 {
@@ -99,7 +99,7 @@ fn end_later(h: Hub, line: &[u8], out: &mut [u8]) -> Step
 // The end of the line that the buffer holds.
 pub fn end_line(h: Hub, line: &[u8], out: &mut [u8]) -> Step
     requires { ⌜ over (stateOf h (now line)) ≡ false ⌝ }
-    requires { ⌜ 4200 ≤ length (now out) ⌝ }
+    requires { ⌜ lineRoom ≤ length (now out) ⌝ }
     requires { ⌜ Sound h (now line) ⌝ }
     ensures { λ r. ⌜ Ends h (now (line .entry)) r (now (out .entry)) (now (out .exit)) ⌝ }
 {

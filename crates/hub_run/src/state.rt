@@ -1,9 +1,18 @@
 // The state between two chunks: a value, and a lent buffer that holds the line so far.
 ghost use Prim.Native.Nat.{_≤_};
 ghost use lib.ListN.{length};
-ghost use Rattle.hub_text.specs.Writing.{Puts};
-ghost use Rattle.hub_run.specs.Whole.{heading};
+ghost use Rattle.text.specs.Writing.{Puts};
+ghost use Rattle.hub_rules.specs.Whole.{heading};
 ghost use Rattle.hub_run.specs.Values.{Begins, IsOver};
+
+// Of a line so many bytes are kept.
+pub const LINE_KEPT: usize = 4097;
+
+// Room for a line of output.
+pub const LINE_ROOM: usize = 4200;
+
+// So many lines are read, the first among them.
+const LINES: u32 = 10000;
 
 // The lines that have ended, the first among them; whether that was another line than it must be; the
 // accepted lines of sets 1 to 10; how many bytes of the line so far are kept.
@@ -33,7 +42,7 @@ pub fn is_over(h: Hub) -> bool
     if h.wrong {
         return true;
     }
-    h.lines == 10000
+    h.lines == LINES
 }
 
 // The output's first line.

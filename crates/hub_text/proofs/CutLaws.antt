@@ -7,14 +7,14 @@ use Prim.Native.Nat.{ℕ, suc, _+_, _-_, _<_, _≤_}
 use native.Mathlib.Omega.{arith}
 use borrow.Author.Tests.{eq-eqb, ne-eqb, eqb-true, eqb-false}
 use lib.Dec.{T, eqb}
-use lib.ListN.{length, take, drop, getD, length-drop, drop-of-length-le}
+use lib.ListN.{length, take, drop, getD, length-take, length-drop, drop-of-length-le}
 use lib.Seq.{drop-drop, drop-cons}
 use mathlib.Core.Logic.{⊎-elim}
 use native.Mathlib.Nat.{le-antisymm}
 use native.Mathlib.Numerals.{add-one}
 use Rattle.hub_text.specs.declared.cut.Cut.{Cut}
-use Rattle.hub_text.specs.Cuts.{noCut, Cuts}
-use Rattle.hub_text.specs.Lines.{joinFirst, wordsOf, lengthBefore, wordEnd, part}
+use Rattle.hub_text.specs.Cuts.{wordEnd, part, noCut, Cuts}
+use Rattle.hub_rules.specs.Lines.{joinFirst, wordsOf, lengthBefore}
 use Rattle.octets.proofs.Tests.{le-or-lt}
 
 pub before-most : (x : ℕ) (s : List ℕ) → lengthBefore x s ≤ length s
@@ -77,6 +77,9 @@ module _ (s : List ℕ) (i : ℕ) (h : i ≤ length s) where
     where
       lt-of : (x y : ℕ) → x ≤ y → (x ≡ y → ⊥) → x < y
       lt-of x y p q = ⊎-elim (λ (k : y ≤ x). absurd (q (le-antisymm p k))) (λ (k : x < y). k) (le-or-lt y x)
+
+pub part-length : (b : List ℕ) (i j : ℕ) → i ≤ j → j ≤ length b → length (part b i j) ≡ j - i
+part-length b i j h g = simp (length-take, length-drop) (omega arith)
 
 -- ---- the loop over a word, or over a line
 

@@ -15,13 +15,13 @@ use Rattle.octets.proofs.Tests.{eqs-other}
 use Rattle.octets.proofs.Parts.{put-at, drop-put}
 use Rattle.hub_text.specs.declared.cut.Cut.{Cut}
 use Rattle.hub_text.specs.declared.request.Asked.{Asked}
-use Rattle.hub_text.specs.Numerals.{isSetNumber, decimalValue, isValue, valueOf}
-use Rattle.hub_text.specs.Lines.{sealWord, openWord, part, fromSix, fromWords, parse}
-use Rattle.hub_text.specs.Lines.Parsed.{malformed}
-use Rattle.hub_text.specs.Cuts.{Cuts}
-use Rattle.hub_text.specs.Requests.{wellFormedAt, Next, noneAsked, Read}
-use Rattle.hub_text.proofs.HexLaws.{of-dash, of-pairs, length-unhex}
-use Rattle.hub_text.proofs.NumeralLaws.{both}
+use Rattle.text.specs.Numerals.{isSetNumber, decimalValue, isValue, valueOf}
+use Rattle.hub_rules.specs.Lines.{lineLimit, sealWord, openWord, fromSix, fromWords, parse}
+use Rattle.hub_rules.specs.Lines.Parsed.{malformed}
+use Rattle.hub_text.specs.Cuts.{part, Cuts}
+use Rattle.hub_text.specs.Requests.{bytesRoom, wellFormedAt, Asks, Next, noneAsked, Read}
+use Rattle.text.proofs.HexLaws.{of-dash, of-pairs, length-unhex}
+use Rattle.text.proofs.NumeralLaws.{both}
 
 -- ---- a word that is another
 
@@ -123,15 +123,15 @@ module _ {v : List ℕ} {i j : ℕ} {a b : List ℕ} (x : Next v i j a b) (h : j
 -- the characters between place p and place q are a value
 pub record Word (s : List ℕ) (p q : ℕ) : Type 0 where
   pub before : p < q
-  pub most : q ≤ 4096
+  pub most : q ≤ lineLimit
   pub value : isValue (part s (p + 1) q) ≡ true
 
 -- i bytes are read off the first p characters
 pub record Stage (p i : ℕ) (b : List ℕ) : Type 0 where
   pub half : 2 * i ≤ p
-  pub room : 2048 ≤ length b
+  pub room : bytesRoom ≤ length b
 
-pub stage-none : (p : ℕ) (b : List ℕ) → 2048 ≤ length b → Stage p 0 b
+pub stage-none : (p : ℕ) (b : List ℕ) → bytesRoom ≤ length b → Stage p 0 b
 stage-none p b h = record { half = omega arith; room = h }
 
 -- the next value: it may be read, and what is then known
@@ -179,21 +179,21 @@ module _ (s : List ℕ) (w : Cut) where
         not-nonce d = rw (a, b, c, d)
 
         module _ (d : isValue (part s (w .c + 1) (w .d)) ≡ true) where
-          pub not-header : isValue (part s (w .d + 1) (w .e)) ≡ false → false ≡ wellFormedAt s w
-          not-header e = rw (a, b, c, d, e)
+          pub not-ad : isValue (part s (w .d + 1) (w .e)) ≡ false → false ≡ wellFormedAt s w
+          not-ad e = rw (a, b, c, d, e)
 
           pub if-text : isValue (part s (w .d + 1) (w .e)) ≡ true → {x : Bool} → isValue (part s (w .e + 1) (length s)) ≡ x → x ≡ wellFormedAt s w
           if-text e f = rw (a, b, c, d, e) (sym f)
 
-module _ {s : List ℕ} {w : Cut} (cuts : Cuts s w) (most : length s ≤ 4096) where
+module _ {s : List ℕ} {w : Cut} (cuts : Cuts s w) (most : length s ≤ lineLimit) where
   pub parse-other : w .good ≡ false → parse s ≡ malformed
   unfolding parse fromWords
-  parse-other g = rw (le-leb (length s) 4096 most, sym (cuts .good-is) ∙ g)
+  parse-other g = rw (le-leb (length s) lineLimit most, sym (cuts .good-is) ∙ g)
 
   parse-six : w .good ≡ true → parse s
       ≡ fromSix (part s 0 (w .a)) (part s (w .a + 1) (w .b)) (part s (w .b + 1) (w .c)) (part s (w .c + 1) (w .d)) (part s (w .d + 1) (w .e)) (part s (w .e + 1) (length s))
   unfolding parse fromWords
-  parse-six g = rw (le-leb (length s) 4096 most, cuts .words-are g)
+  parse-six g = rw (le-leb (length s) lineLimit most, cuts .words-are g)
 
   pub parse-not : w .good ≡ true → wellFormedAt s w ≡ false → parse s ≡ malformed
   unfolding fromSix
@@ -212,18 +212,11 @@ read-malformed s b r n e =
 
 -- ---- a request read
 
--- what is known of a line that is one
-pub record Asks (s : List ℕ) (w : Cut) : Type 0 where
-  pub good : w .good ≡ true
-  pub cuts : Cuts s w
-  pub most : length s ≤ 4096
-  pub formed : wellFormedAt s w ≡ true
-
 pub record Words (s : List ℕ) (w : Cut) : Type 0 where
   pub set : isSetNumber (part s (w .a + 1) (w .b)) ≡ true
   pub key : Word s (w .b) (w .c)
   pub nonce : Word s (w .c) (w .d)
-  pub header : Word s (w .d) (w .e)
+  pub ad : Word s (w .d) (w .e)
   pub text : Word s (w .e) (length s)
 
 pub words : {s : List ℕ} {w : Cut} → Asks s w → Words s w
@@ -238,29 +231,29 @@ words {s} {w} h =
       set = both (isAct (part s 0 (w .a))) _ (c .0) .1;
       key = record { before = o .1; most = omega (arith, o, m); value = c .1 };
       nonce = record { before = o .2; most = omega (arith, o, m); value = d .1 };
-      header = record { before = o .3; most = omega (arith, o, m); value = e .1 };
+      ad = record { before = o .3; most = omega (arith, o, m); value = e .1 };
       text = record { before = o .4; most = m; value = f .1 };
     }
 
 -- v₁ to v₆ are the words
-pub read-asked : {s : List ℕ} {w : Cut} → Asks s w → {v₁ v₂ v₃ v₄ v₅ v₆ b₀ b₁ b₂ b₃ b₄ : List ℕ} {seals : Bool} {set k n m t : ℕ} → 2048 ≤ length b₀ →
+pub read-asked : {s : List ℕ} {w : Cut} → Asks s w → {v₁ v₂ v₃ v₄ v₅ v₆ b₀ b₁ b₂ b₃ b₄ : List ℕ} {seals : Bool} {set k n m t : ℕ} → bytesRoom ≤ length b₀ →
     v₁ ≡ part s 0 (w .a) → seals ≡ eqs v₁ sealWord →
     v₂ ≡ part s (w .a + 1) (w .b) → set ≡ decimalValue 0 v₂ →
     v₃ ≡ part s (w .b + 1) (w .c) → Next (valueOf v₃) 0 k b₀ b₁ →
     v₄ ≡ part s (w .c + 1) (w .d) → Next (valueOf v₄) k n b₁ b₂ →
     v₅ ≡ part s (w .d + 1) (w .e) → Next (valueOf v₅) n m b₂ b₃ →
     v₆ ≡ part s (w .e + 1) (length s) → Next (valueOf v₆) m t b₃ b₄ →
-    Read s (record { good = true; seals = seals; set = set; key = k; nonce = n; header = m; text = t }) b₀ b₄
+    Read s (record { good = true; seals = seals; set = set; key = k; nonce = n; ad = m; text = t }) b₀ b₄
 unfolding fromSix
 read-asked {s} {w} h {v₁} {v₂} {v₃} {v₄} {v₅} {v₆} {b₀} {b₁} {b₂} {b₃} {b₄} {seals} {set} {k} {n} {m} {t} room e₁ x₁ e₂ x₂ e₃ x₃ e₄ x₄ e₅ x₅ e₆ x₆ =
     let o = words h in
     let g₃ = stage-none (w .b) b₀ room in
     let g₄ = stage-next (o .key) g₃ e₃ x₃ in
     let g₅ = stage-next (o .nonce) g₄ e₄ x₄ in
-    let g₆ = stage-next (o .header) g₅ e₅ x₅ in
+    let g₆ = stage-next (o .ad) g₅ e₅ x₅ in
     let i₃ = ends-in (o .key) g₃ e₃ x₃ in
     let i₄ = ends-in (o .nonce) g₄ e₄ x₄ in
-    let i₅ = ends-in (o .header) g₅ e₅ x₅ in
+    let i₅ = ends-in (o .ad) g₅ e₅ x₅ in
     let i₆ = ends-in (o .text) g₆ e₆ x₆ in
     let l₁ : k ≤ n = omega (arith, x₄ .ends) in
     let l₂ : n ≤ m = omega (arith, x₅ .ends) in

@@ -3,11 +3,19 @@
 use mathlib.Core.Path.{_≡_}
 use mathlib.Core.Bool.{true, false}
 use mathlib.Core.List.{List, [], _∷_}
-use Prim.Native.Nat.{ℕ, _+_, _<_}
+use Prim.Native.Nat.{ℕ, _+_, _-_, _<_}
 use lib.Dec.{eqb}
-use lib.ListN.{length}
+use lib.ListN.{length, take, drop}
 use Rattle.hub_text.specs.declared.cut.Cut.{Cut}
-use Rattle.hub_text.specs.Lines.{wordsOf, part}
+use Rattle.hub_rules.specs.Lines.{wordsOf, lengthBefore}
+
+-- where the word ends that begins at a place
+abbrev pub wordEnd : List ℕ → ℕ → ℕ
+wordEnd s i = i + lengthBefore 32 (drop i s)
+
+-- the characters from one place to another
+abbrev pub part : List ℕ → ℕ → ℕ → List ℕ
+part s i j = take (j - i) (drop i s)
 
 -- of another number of words
 abbrev pub noCut : Cut

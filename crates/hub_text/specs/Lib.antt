@@ -1,5 +1,2 @@
-pub mod Numerals
-pub mod Writing
-pub mod Lines
 pub mod Cuts
 pub mod Requests

@@ -1,19 +1,25 @@
 // What a line asks for.
 use crate::cut::Cut;
 use crate::cut::spaces;
-use crate::decimal::is_set_number;
-use crate::decimal::set_number;
-use crate::hex::is_value;
-use crate::hex::read_value;
+use text::is_set_number;
+use text::is_value;
+use text::read_value;
+use text::set_number;
 ghost use mathlib.Core.Path.{_≡_};
 ghost use mathlib.Core.Bool.{true, _||_};
 ghost use Prim.Native.Nat.{_+_, _/_, _≤_};
 ghost use lib.ListN.{length};
 ghost use Rattle.octets.specs.Strings.{eqs};
-ghost use Rattle.hub_text.specs.Numerals.{isValue, valueOf};
-ghost use Rattle.hub_text.specs.Lines.{sealWord, openWord, part};
-ghost use Rattle.hub_text.specs.Cuts.{Cuts};
-ghost use Rattle.hub_text.specs.Requests.{wellFormedAt, Next, noneAsked, Read};
+ghost use Rattle.text.specs.Numerals.{isValue, valueOf};
+ghost use Rattle.hub_rules.specs.Lines.{lineLimit, sealWord, openWord};
+ghost use Rattle.hub_text.specs.Cuts.{part, Cuts};
+ghost use Rattle.hub_text.specs.Requests.{bytesRoom, wellFormedAt, Asks, Next, noneAsked, Read};
+
+// A line has at most so many bytes.
+pub const LINE_LIMIT: usize = 4096;
+
+// Room for the bytes that a line's strings stand for, two characters each.
+pub const BYTES_ROOM: usize = 2048;
 
 // A request's act and set, and where its strings end in the bytes that were read; good is false for
 // a malformed line.
@@ -23,7 +29,7 @@ pub struct Asked {
     pub set: u32,
     pub key: usize,
     pub nonce: usize,
-    pub header: usize,
+    pub ad: usize,
     pub text: usize,
 }
 
@@ -110,25 +116,23 @@ fn read_next(w: &[u8], bytes: &mut [u8], at: usize) -> usize
 
 // The request of six words that are one: its strings over the first bytes of bytes.
 fn read_request(line: &[u8], w: Cut, bytes: &mut [u8]) -> Asked
-    requires { ⌜ w .good ≡ true ⌝ }
-    requires { ⌜ Cuts (now line) w ⌝ }
-    requires { ⌜ (length (now line) ≤ 4096) × (2048 ≤ length (now bytes)) ⌝ }
-    requires { ⌜ wellFormedAt (now line) w ≡ true ⌝ }
+    requires { ⌜ Asks (now line) w ⌝ }
+    requires { ⌜ bytesRoom ≤ length (now bytes) ⌝ }
     ensures { λ r. ⌜ Read (now (line .entry)) r (now (bytes .entry)) (now (bytes .exit)) ⌝ }
 {
     let seals = is_seal(word(line, 0, w.a));
     let set = set_number(word(line, w.a + 1, w.b));
     let key = read_next(word(line, w.b + 1, w.c), bytes, 0);
     let nonce = read_next(word(line, w.c + 1, w.d), bytes, key);
-    let header = read_next(word(line, w.d + 1, w.e), bytes, nonce);
-    let text = read_next(word(line, w.e + 1, line.len()), bytes, header);
+    let ad = read_next(word(line, w.d + 1, w.e), bytes, nonce);
+    let text = read_next(word(line, w.e + 1, line.len()), bytes, ad);
     Asked {
         good: true,
         seals: seals,
         set: set,
         key: key,
         nonce: nonce,
-        header: header,
+        ad: ad,
         text: text,
     }
 }
@@ -142,14 +146,14 @@ fn malformed() -> Asked
         set: 0,
         key: 0,
         nonce: 0,
-        header: 0,
+        ad: 0,
         text: 0,
     }
 }
 
-// What a line of at most 4,096 bytes says.
+// What a line within the limit says.
 pub fn read_line(line: &[u8], bytes: &mut [u8]) -> Asked
-    requires { ⌜ (length (now line) ≤ 4096) × (2048 ≤ length (now bytes)) ⌝ }
+    requires { ⌜ (length (now line) ≤ lineLimit) × (bytesRoom ≤ length (now bytes)) ⌝ }
     ensures { λ r. ⌜ Read (now (line .entry)) r (now (bytes .entry)) (now (bytes .exit)) ⌝ }
 {
     let w = spaces(line);

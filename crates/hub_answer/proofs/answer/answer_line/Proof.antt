@@ -4,16 +4,18 @@ use mathlib.Core.Path.{_≡_}
 use native.Mathlib.Omega.{arith}
 use borrow.Author.Needs.{needs}
 use lib.ListN.{length, length-take}
-use Rattle.hub_text.specs.Lines.{parse}
-use Rattle.hub_answer.proofs.AnswerLaws.{answer-most, answered}
+use Rattle.hub_rules.specs.Lines.{parse}
+use Rattle.hub_rules.proofs.AnswerLaws.{answer-most}
+use Rattle.hub_answer.proofs.AnswerLaws.{answered}
 use Rattle.hub_answer.proofs.answer.answer_line.Statement.{statement}
 use Rattle.hub_answer.proofs.answer.answer_line.Tie as tie
+use Rattle.hub_answer.specs.Replies.{resultRoom}
 
 put-line-requires : tie.Need-put-line-requires
 put-line-requires c κs =
     let reply = c .before .before .before .reply-to in
     let m = answer-most (parse (c .before .before .before .before .before .before .before .args .line .now)) in
-    let l : length (reply .last .1 .0) ≡ 2064 = search needs in
+    let l : length (reply .last .1 .0) ≡ resultRoom = search needs in
     let t = length-take (reply .result .length) (reply .last .1 .0) in
     search (needs, m, t)
 

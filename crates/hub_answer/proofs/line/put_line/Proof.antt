@@ -5,8 +5,9 @@ use mathlib.Core.List.{List, [], _∷_, _++_}
 use Prim.Native.Nat.{ℕ, _+_}
 use borrow.Author.Needs.{needs}
 use lib.ListN.{length}
-use Rattle.hub_text.specs.Numerals.{decimal, shown}
-use Rattle.hub_answer.proofs.LineLaws.{puts-then, line-written, room-two, room-three, room-four, same-after}
+use Rattle.text.specs.Numerals.{decimal, shown}
+use Rattle.text.proofs.WritingLaws.{middle-length, puts-then}
+use Rattle.hub_answer.proofs.LineLaws.{line-written, room-two, room-three, room-four}
 use Rattle.hub_answer.proofs.line.put_line.Statement.{statement}
 use Rattle.hub_answer.proofs.line.put_line.Tie as tie
 
@@ -24,9 +25,9 @@ returns c =
     let n = length (at .args .result .now) in
     let h = at .pre .2 in
     let r₂ = room-two n h (first .ensures .0) (second .ensures .0) (third .ensures .0) (first .kept .1 .0) in
-    let l₂ = same-after (first .last .1 .0) (second .last .1 .0) (first .result) (second .result) r₂ (second .kept .1 .0) ∙ first .kept .1 .0 in
+    let l₂ = middle-length (first .last .1 .0) (second .last .1 .0) (first .result) (second .result) r₂ (second .kept .1 .0) ∙ first .kept .1 .0 in
     let r₃ = room-three n h (first .ensures .0) (second .ensures .0) (third .ensures .0) l₂ in
-    let l₃ = same-after _ (third .last .1 .0) n₂ (third .result) r₃ (third .kept .1 .0) ∙ l₂ in
+    let l₃ = middle-length _ (third .last .1 .0) n₂ (third .result) r₃ (third .kept .1 .0) ∙ l₂ in
     let r₄ = room-four n h (first .ensures .0) (second .ensures .0) (third .ensures .0) l₃ (c .before .before .put-byte .ensures .0) in
     let w₂ = puts-then d (first .last .1 .0) t₁ t₂ _ _ _ (first .ensures .1) r₂ (second .ensures .1) in
     let w₃ = puts-then d _ (t₁ ++ t₂) t₃ _ _ _ w₂ r₃ (third .ensures .1) in

@@ -3,8 +3,9 @@
 use mathlib.Core.Path.{sym, ap, _∙_}
 use borrow.Author.Needs.{needs}
 use lib.Seq.{length-take-le}
-use Rattle.hub_run.specs.Stream.{over}
-use Rattle.hub_run.proofs.ChunkLaws.{longer-over, feeds-over, feeds-piece, feeds-line}
+use Rattle.hub_rules.specs.Stream.{over}
+use Rattle.hub_rules.proofs.StreamLaws.{longer-over}
+use Rattle.hub_run.proofs.ChunkLaws.{feeds-over, feeds-piece, feeds-line}
 use Rattle.hub_run.proofs.chunk.feed_line.Statement.{statement}
 use Rattle.hub_run.proofs.chunk.feed_line.Tie as tie
 

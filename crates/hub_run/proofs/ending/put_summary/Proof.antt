@@ -1,9 +1,9 @@
 -- `hub_run::ending::put_summary` meets its contract.
 -- Assumes nothing.
 use borrow.Author.Needs.{needs}
-use Rattle.hub_answer.proofs.LineLaws.{puts-then}
-use Rattle.hub_run.specs.Whole.{summaryHead}
-use Rattle.hub_run.specs.Stream.{rowsOf}
+use Rattle.text.proofs.WritingLaws.{puts-then}
+use Rattle.hub_rules.specs.Whole.{summaryHead}
+use Rattle.hub_rules.specs.Stream.{rowsOf}
 use Rattle.hub_run.proofs.StateLaws.{counts-below}
 use Rattle.hub_run.proofs.SummaryLaws.{summary-wrong, summary-right}
 use Rattle.hub_run.proofs.ending.put_summary.Statement.{statement}

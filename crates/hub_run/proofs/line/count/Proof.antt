@@ -4,8 +4,8 @@ use mathlib.Core.Path.{ap, _∙_}
 use Prim.Native.Nat.{ℕ, _+_, _-_}
 use native.Mathlib.Omega.{arith}
 use borrow.Author.Needs.{needs}
-use Rattle.hub_run.specs.Stream.{counted}
-use Rattle.hub_run.proofs.StateLaws.{counted-below, counted-above, counted-at}
+use Rattle.hub_rules.specs.Stream.{counted}
+use Rattle.hub_rules.proofs.StreamLaws.{counted-below, counted-above, counted-at}
 use Rattle.hub_run.proofs.line.count.Statement.{statement}
 use Rattle.hub_run.proofs.line.count.Tie as tie
 

@@ -3,8 +3,8 @@
 use mathlib.Core.List.{List, [], _∷_, _++_}
 use Prim.Native.Nat.{ℕ}
 use borrow.Author.Needs.{needs}
-use Rattle.hub_text.specs.Numerals.{decimal}
-use Rattle.hub_answer.proofs.LineLaws.{puts-then}
+use Rattle.text.specs.Numerals.{decimal}
+use Rattle.text.proofs.WritingLaws.{puts-then}
 use Rattle.hub_run.proofs.SummaryLaws.{row-none, row-some}
 use Rattle.hub_run.proofs.summary.put_row.Statement.{statement}
 use Rattle.hub_run.proofs.summary.put_row.Tie as tie

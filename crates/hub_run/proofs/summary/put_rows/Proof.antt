@@ -1,6 +1,7 @@
 -- `hub_run::summary::put_rows` meets its contract.
 -- Assumes nothing.
 use Prim.Native.Nat.{_-_}
+use native.Mathlib.Omega.{arith}
 use borrow.Author.Needs.{needs}
 use Rattle.hub_run.proofs.SummaryLaws.{Rows, rows-none, rows-turn, rows-all}
 use Rattle.hub_run.proofs.summary.put_rows.Statement.{statement}
@@ -26,7 +27,7 @@ put-rows-spec =
     (λ c. search needs)
     (λ c. search needs)
     (λ c. search needs)
-    (λ c κs. let b = c .before .before .before .before .pre .1 (c .before .before .loop .i) in (search needs, b, search needs))
+    (λ c κs. let b = c .before .before .before .before .pre .1 (c .before .before .loop .i) in (search needs, omega (arith, b), search needs))
     (λ c. search needs)
     (λ c. search needs)
     (λ c. search needs)

@@ -4,8 +4,8 @@ use mathlib.Core.Path.{refl}
 use native.Mathlib.Omega.{arith}
 use borrow.Author.Needs.{needs}
 use borrow.Author.Tests.{not-true, not-false}
-use Rattle.hub_text.specs.Numerals.{isSetNumber, isValue}
-use Rattle.hub_text.proofs.RequestLaws.{isAct, says, not-act, not-set, not-key, not-nonce, not-header, if-text}
+use Rattle.text.specs.Numerals.{isSetNumber, isValue}
+use Rattle.hub_text.proofs.RequestLaws.{isAct, says, not-act, not-set, not-key, not-nonce, not-ad, if-text}
 use Rattle.hub_text.proofs.request.is_request.Statement.{statement}
 use Rattle.hub_text.proofs.request.is_request.Tie as tie
 
@@ -42,7 +42,7 @@ returns-4 c =
 returns-5 : tie.Need-returns-5
 returns-5 c =
     let at = c .before .before .before .before .before .before .before .before .before .before .before .before .before .before .before .before .before .before .before .before in
-    not-header (at .args .line .now) (at .args .w)
+    not-ad (at .args .line .now) (at .args .w)
     (says isAct (c .before .before .before .before .before .before .before .before .before .before .before .before .before .before .before .before .before .before .word .ensures) (c .before .before .before .before .before .before .before .before .before .before .before .before .before .before .before .before .before .is-act .ensures) (not-false _ (c .before .before .before .before .before .before .before .before .before .before .before .before .before .before .before .before .if1 .left)))
     (says isSetNumber (c .before .before .before .before .before .before .before .before .before .before .before .before .before .before .word2 .ensures) (c .before .before .before .before .before .before .before .before .before .before .before .before .before .is-set-number .ensures) (not-false _ (c .before .before .before .before .before .before .before .before .before .before .before .before .if2 .left)))
     (says isValue (c .before .before .before .before .before .before .before .before .before .before .word3 .ensures) (c .before .before .before .before .before .before .before .before .before .is-value .ensures) (not-false _ (c .before .before .before .before .before .before .before .before .if3 .left)))

@@ -19,10 +19,16 @@ returns-2 c =
     (parse-not (c .before .before .before .before .before .spaces .ensures) (at .pre .0) (not-false _ (c .before .before .before .if1 .left)) (sym (c .before .before .is-request .ensures) ∙ not-true _ (c .before .if2 .taken)))
 
 read-request-requires : tie.Need-read-request-requires
-read-request-requires c κs = (
-  not-false _ (c .before .before .before .if1 .left),
-  (c .before .before .before .before .before .spaces .ensures, (c .before .before .before .before .before .before .before .before .pre, sym (c .before .before .is-request .ensures) ∙ not-false _ (c .before .if2 .left))),
-)
+read-request-requires c κs =
+    let at = c .before .before .before .before .before .before .before .before in (
+      record {
+        good = not-false _ (c .before .before .before .if1 .left);
+        cuts = c .before .before .before .before .before .spaces .ensures;
+        most = at .pre .0;
+        formed = sym (c .before .before .is-request .ensures) ∙ not-false _ (c .before .if2 .left);
+      },
+      at .pre .1,
+    )
 
 pub read-line-spec : {M : Type 1} → statement M
 read-line-spec =

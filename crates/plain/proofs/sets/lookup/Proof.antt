@@ -1,4 +1,4 @@
--- `cba::sets::lookup` meets its contract: the constant rows are those of the definition.
+-- `plain::sets::lookup` meets its contract: the constant rows are those of the definition.
 -- Assumes nothing.
 use borrow.Author.Needs.{needs}
 use Rattle.cba_mode.specs.Sets.{column}

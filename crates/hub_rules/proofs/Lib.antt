@@ -1,0 +1,8 @@
+pub mod WordLaws
+pub mod Grammar
+pub mod AnswerLaws
+pub mod Example
+pub mod StreamLaws
+pub mod CuttingLaws
+pub mod BufferLaws
+pub mod UsedLaws

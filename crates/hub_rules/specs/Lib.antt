@@ -1,0 +1,4 @@
+pub mod Lines
+pub mod Answers
+pub mod Whole
+pub mod Stream

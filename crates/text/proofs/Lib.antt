@@ -1,0 +1,4 @@
+pub mod NumeralLaws
+pub mod DecimalLaws
+pub mod HexLaws
+pub mod WritingLaws
