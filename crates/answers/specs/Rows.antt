@@ -33,6 +33,10 @@ unfoldable pub isIn : ℕ → List ℕ → Bool
 isIn n [] = false
 isIn n (m ∷ ms) = eqb n m || isIn n ms
 
+unfoldable pub allIn : List ℕ → List ℕ → Bool
+allIn [] ms = true
+allIn (n ∷ ns) ms = isIn n ms && allIn ns ms
+
 -- each row has a number of its own, and none has 0
 unfoldable pub ownNumbers : List ℕ → Bool
 ownNumbers [] = true

@@ -11,6 +11,11 @@ pub record Entry : Type 0 where
 abbrev entry : ℕ → String → Entry
 entry n w = record { number = n; word = w }
 
+-- the numbers of a table
+unfoldable pub numbersOf : List Entry → List ℕ
+numbersOf [] = []
+numbersOf (e ∷ es) = e .number ∷ numbersOf es
+
 abbrev pub table : List Entry
 table =
     entry 0 "accepted"

@@ -1,6 +1,6 @@
 -- Example calls: one fault each, then each fault with all that follow it, by lengths alone, and the answer. A wrong row, or a wrong order, shows here.
 -- Assumes nothing.
-use mathlib.Core.Bool.{Bool, true, false, _&&_}
+use mathlib.Core.Bool.{Bool, true, _&&_}
 use mathlib.Core.List.{List, [], _∷_}
 use Prim.Native.Nat.{ℕ}
 use lib.Dec.{eqb}

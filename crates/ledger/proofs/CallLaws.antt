@@ -1,7 +1,6 @@
 -- A making and a sealing on a ledger whose set is known: the checks in their groups, and the call.
 -- Assumes nothing.
 use mathlib.Core.Path.{_≡_, refl, sym, ap, subst, _∙_}
-use mathlib.Core.Bool.{true, not}
 use mathlib.Core.List.{List, [], _∷_}
 use Prim.Native.Nat.{ℕ, _/_, _≤_}
 use native.Mathlib.Omega.{arith}
@@ -9,7 +8,7 @@ use lib.ListN.{length, take}
 use lib.Seq.{length-take-le}
 use Rattle.answers.specs.Rows.{answer, firstOf, numbers, isIn, ownNumbers}
 use Rattle.answers.proofs.RowLaws.{joined}
-use Rattle.cba_mode.specs.Sets.{isSet, keyBytes, tagBytes}
+use Rattle.cba_mode.specs.Sets.{keyBytes, tagBytes}
 use Rattle.cba_mode.specs.Charge.{charge}
 use Rattle.cba_rules.specs.Checks.{setTag, badKey, badNonce, longData, messageRows}
 use Rattle.cba_rules.specs.Refusals.{SealCall}

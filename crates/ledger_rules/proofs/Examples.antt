@@ -3,11 +3,17 @@
 use mathlib.Core.Path.{_≡_, refl}
 use mathlib.Core.Bool.{true}
 use Rattle.octets.specs.Numbers.{number}
-use Rattle.answers.specs.Rows.{answer}
+use Rattle.answers.specs.Rows.{answer, numbers, isIn, allIn}
+use Rattle.answers.specs.Table.{table, numbersOf}
 use Rattle.cba_mode.specs.Sets.{isSet, column}
 use Rattle.cba_mode.specs.Charge.{charge}
 use Rattle.ledger_rules.specs.Ledger.{makeRows, stale, spent, ledgerRows, ledgerAnswer}
 use Rattle.ledger_rules.specs.Examples.{makings, sealings, makesSo, sealsSo}
+
+-- every number of the rows is in the table of all answers
+pub in-the-table : (allIn (numbers (makeRows 0 0)) (numbersOf table) ≡ true) × (allIn (numbers (ledgerRows 0 0 0 0 0 true true)) (numbersOf table) ≡ true)
+unfolding allIn isIn numbers numbersOf makeRows ledgerRows
+in-the-table = (refl, refl)
 
 pub making-examples : makesSo makings ≡ true
 unfolding makesSo answer makeRows isSet column

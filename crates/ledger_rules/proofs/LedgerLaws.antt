@@ -1,20 +1,20 @@
 -- What a making and a sealing on a ledger answer, and what they leave.
 -- Assumes nothing.
-use mathlib.Core.Path.{_≡_, refl, sym, ap, subst, _∙_}
-use mathlib.Core.Bool.{Bool, true, false, cond, not}
-use mathlib.Core.List.{List, [], _∷_, _++_}
+use mathlib.Core.Path.{_≡_, refl, sym, ap, _∙_}
+use mathlib.Core.Bool.{true, false, cond, not}
+use mathlib.Core.List.{List, _∷_, _++_}
 use Prim.Native.Nat.{ℕ, _+_, _^_, _<_, _≤_}
 use native.Mathlib.Omega.{arith}
 use borrow.Author.Tests.{ne-eqb, ltb-false, le-ltb}
 use lib.Dec.{eqb}
-use lib.ListN.{length, take}
+use lib.ListN.{length}
 use lib.Pow.{pow-lt}
 use lib.Seq.{length-take-le}
 use Rattle.answers.specs.Rows.{Row, answer, firstOf, Passes, numbers, isIn, ownNumbers, Decides}
 use Rattle.answers.proofs.RowLaws.{not-false, accepts, passes-parts, passed, decides, two-parts}
 use Rattle.cba_mode.specs.Sets.{isSet, keyBytes, capacity}
 use Rattle.cba_mode.specs.Charge.{charge}
-use Rattle.cba_rules.specs.Checks.{setTag, badSet, messageRows}
+use Rattle.cba_rules.specs.Checks.{setTag, badSet}
 use Rattle.cba_rules.specs.Refusals.{sealing, sealAnswer, sealLeaves, sealOutput, SealCall}
 use Rattle.cba_rules.proofs.SetLaws.{set-fits}
 use Rattle.cba_rules.proofs.RefusalLaws.{Seals, is-length, has-length, message-passes, message-passed, seal-untouched, seal-accepts}
@@ -50,10 +50,10 @@ pub record Ready (t nonce ad message out : ℕ) : Type 0 where
   pub data-limit : ad ≤ 4096
   pub seals : Seals t message out
 
-pub ready-passes : (t nonce ad message out : ℕ) → Ready t nonce ad message out → Passes (ledgerChecks t nonce ad message out)
+ready-passes : (t nonce ad message out : ℕ) → Ready t nonce ad message out → Passes (ledgerChecks t nonce ad message out)
 ready-passes t nonce ad message out r = (has-length nonce 12 (r .nonce-length), (le-ltb 4096 ad (r .data-limit), message-passes t message out (r .seals)))
 
-pub ready-passed : (t nonce ad message out : ℕ) → Passes (ledgerChecks t nonce ad message out) → Ready t nonce ad message out
+ready-passed : (t nonce ad message out : ℕ) → Passes (ledgerChecks t nonce ad message out) → Ready t nonce ad message out
 ready-passed t nonce ad message out p =
     record { nonce-length = is-length nonce 12 (p .0); data-limit = ltb-false 4096 ad (p .1 .0); seals = message-passed t message out (p .1 .1) }
 
@@ -69,7 +69,7 @@ module _ (l : Ledger) (N : List ℕ) (ad message out : ℕ) where
   own = ownRows (stale l N) (spent l (charge ad message))
 
   -- on a set, the checks before the ledger's own, then those
-  pub ledger-parts : isSet (l .set) ≡ true → ledgerAnswer l N ad message out ≡ firstOf (answer checks) (answer own)
+  ledger-parts : isSet (l .set) ≡ true → ledgerAnswer l N ad message out ≡ firstOf (answer checks) (answer own)
   unfolding ledgerAnswer ledgerRows answer numbers isIn ownNumbers
   ledger-parts s = rw s (two-parts checks own refl)
 
@@ -124,7 +124,7 @@ module _ (l : Ledger) (N : List ℕ) (ad message out : ℕ) where
       let p = pow-lt {i = capacity (l .set)} {j = 64} (omega (arith, set-fits (l .set) (ledger-accepted e .is-set) .1)) in
       omega (arith, ledger-total e, p)
 
-  pub next-refused : (ledgerAnswer l N ad message out ≡ 0 → ⊥) → nextLedger l N ad message out ≡ l
+  next-refused : (ledgerAnswer l N ad message out ≡ 0 → ⊥) → nextLedger l N ad message out ≡ l
   unfolding nextLedger
   next-refused n = rw (ne-eqb (ledgerAnswer l N ad message out) 0 n) refl
 

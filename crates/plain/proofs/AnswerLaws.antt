@@ -1,7 +1,7 @@
 -- Plain sealing and plain opening of a known set: what the checks answer, what an accepted input has, and the output.
 -- Assumes nothing.
 use mathlib.Core.Path.{_≡_, refl, sym, ap, ap₂, subst, _∙_}
-use mathlib.Core.Bool.{Bool, true, false, cond}
+use mathlib.Core.Bool.{Bool, cond}
 use mathlib.Core.List.{List, [], _∷_, _++_}
 use Prim.Native.Nat.{ℕ, _+_, _-_, _/_}
 use native.Mathlib.Omega.{arith}
@@ -81,7 +81,7 @@ module _ (set : ℕ) (p : Parameters) (known : lookupOf set ≡ Known p) (key N 
 
 -- ---- opening
 
-pub open-refused : (set : ℕ) (key N A C out : List ℕ) (r : ℕ) → r ≡ openAnswer set key N A C out → (r ≡ 0 → ⊥) → (r ≡ 8 → ⊥) → OpenCall set key N A C out r out
+open-refused : (set : ℕ) (key N A C out : List ℕ) (r : ℕ) → r ≡ openAnswer set key N A C out → (r ≡ 0 → ⊥) → (r ≡ 8 → ⊥) → OpenCall set key N A C out r out
 open-refused set key N A C out r e n m = (e, sym (open-refusals set key N A C out _ _ (refl, refl) .untouched (λ z. n (e ∙ z)) (λ z. m (e ∙ z))))
 
 pub open-unknown : (set : ℕ) (key N A C out : List ℕ) → lookupOf set ≡ Unknown → OpenCall set key N A C out 1 out

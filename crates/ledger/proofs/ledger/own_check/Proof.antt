@@ -1,6 +1,6 @@
 -- `ledger::ledger::own_check` meets its contract.
 -- Assumes nothing.
-use mathlib.Core.Path.{sym, refl, _∙_}
+use mathlib.Core.Path.{sym, _∙_}
 use mathlib.Core.List.{[], _∷_}
 use Rattle.answers.proofs.RowLaws.{accepts, refuses}
 use Rattle.cba_rules.proofs.SetLaws.{set-fits}
