@@ -4,7 +4,7 @@
 //!     bench hardware PLAN                        the second process of `time`
 //!     bench calls CANDIDATE ACT SET SIZE COUNT   so many calls, for valgrind to count
 
-#[path = "../tests/random.rs"]
+#[path = "../tests/shared/random.rs"]
 mod random;
 
 mod boxes;

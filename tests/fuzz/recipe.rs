@@ -9,7 +9,8 @@
 //!     bytes 10, 11 the room in the output of the sealing and of the opening
 //!     the rest     the bytes of key, nonce, data and message, over and over
 
-use crate::calls::{form, set, Act, BAD_SETS, MOST_DATA, MOST_TEXT, NONCE, OPEN, SEAL};
+use crate::shared::expected::{form, set, Act, MOST_DATA, MOST_TEXT, NONCE, OPEN, SEAL};
+use crate::shared::inputs::BAD_SETS;
 
 pub const HEAD: usize = 12;
 

@@ -1,0 +1,119 @@
+//! The key ledger written a second time, from document 01, and what crates/ledger_script is held to by it.
+//!
+//!     target/tests/ledger_model stdin
+//!     target/tests/ledger_model stdout
+//!     target/tests/ledger_model run PROGRAM [SEED]
+//!
+//! The first two write the script of the gate and what it must print. The third runs 10,000 random lists of calls
+//! through the program, target/bin/ledger_script, and compares each line: the answer, each field of the ledger and
+//! the output. It prints its seed, and the same seed makes the same run. The exit status is 0 where there is no
+//! difference, 1 where there is one, and 2 where an argument is wrong.
+
+#![allow(non_snake_case)] // the paper's names
+
+mod lists;
+mod model;
+mod script;
+#[path = "../shared/mod.rs"]
+mod shared;
+
+use lists::{list, Seen};
+use model::Record;
+use script::script;
+use shared::random::Random;
+use shared::seed::{seed, wrong};
+use std::collections::BTreeMap;
+use std::io::Write;
+use std::process::{exit, Command, Stdio};
+use std::time::Instant;
+
+const LISTS: usize = 10_000;
+const SHOWN: usize = 5; // differences that are printed
+
+/// What the program writes for the records, and whether it ended well.
+fn output(program: &str, records: Vec<u8>) -> Result<(String, bool), String> {
+    let mut child = Command::new(program)
+        .stdin(Stdio::piped())
+        .stdout(Stdio::piped())
+        .spawn()
+        .map_err(|e| format!("{program}: {e}"))?;
+    let mut stdin = child.stdin.take().expect("a pipe");
+    let writer = std::thread::spawn(move || stdin.write_all(&records));
+    let done = child.wait_with_output().map_err(|e| e.to_string())?;
+    // A program that stops early does not read all, and leaves lines out, which is a difference.
+    let _ = writer.join().expect("a writer");
+    let text = String::from_utf8_lossy(&done.stdout).into_owned();
+    Ok((text, done.status.success()))
+}
+
+/// Compares the lines, of which it prints the first that differ with their calls, and counts the differences.
+fn differences(lists: &[(Vec<Record>, Vec<String>)], found: &str) -> usize {
+    let mut found_lines = found.lines();
+    let mut count = 0;
+    for (n, (records, lines)) in lists.iter().enumerate() {
+        for (i, line) in lines.iter().enumerate() {
+            let found = found_lines.next().unwrap_or("nothing");
+            count += (found != line) as usize;
+            if found != line && count <= SHOWN {
+                let before = if i == 0 { "-" } else { &lines[i - 1] };
+                eprintln!("list {}, call {}: {:?}", n + 1, i + 1, records[i]);
+                eprintln!("  before   {before}\n  expected {line}\n  found    {found}");
+            }
+        }
+    }
+    count + found_lines.count()
+}
+
+fn by_answer(counts: &BTreeMap<u32, usize>) -> String {
+    let answers = counts.iter().map(|(a, n)| format!("answer {a}: {n}"));
+    answers.collect::<Vec<_>>().join(", ")
+}
+
+fn run(program: &str, word: Option<&str>) -> ! {
+    let mut random = Random(seed("ledger_model", word));
+    let start = Instant::now();
+    let mut seen = Seen::default();
+    let lists: Vec<_> = (0..LISTS).map(|_| list(&mut random, &mut seen)).collect();
+    let records = lists.iter().flat_map(|(records, _)| records);
+    let found = output(program, records.flat_map(Record::bytes).collect());
+    let (found, ended) = found.unwrap_or_else(|why| wrong(&format!("ledger_model: {why}")));
+    let differences = differences(&lists, &found) + !ended as usize;
+
+    println!(
+        "ledger_model: makings, {}; hand-made: {}",
+        by_answer(&seen.makings),
+        seen.put
+    );
+    for (kind, counts) in ["by value", "on a lent ledger"].iter().zip(&seen.sealings) {
+        let calls: usize = counts.values().sum();
+        println!(
+            "ledger_model: {calls} sealings {kind}; {}",
+            by_answer(counts)
+        );
+    }
+    println!(
+        "ledger_model: {LISTS} lists; {} pairs of refusals, {} sums of 2^64 or more; {differences} differences; {:.1} s",
+        seen.pairs.len(),
+        seen.above_2_64,
+        start.elapsed().as_secs_f64()
+    );
+    if differences != 0 {
+        exit(1);
+    }
+    seen.all();
+    exit(0)
+}
+
+fn main() {
+    let args: Vec<String> = std::env::args().skip(1).collect();
+    let args: Vec<&str> = args.iter().map(|a| a.as_str()).collect();
+    let bytes = match args[..] {
+        ["stdin"] => script().records.iter().flat_map(Record::bytes).collect(),
+        ["stdout"] => (script().lines.join("\n") + "\n").into_bytes(),
+        ["run", program] => run(program, None),
+        ["run", program, word] => run(program, Some(word)),
+        _ => wrong("usage: ledger_model stdin | stdout | run PROGRAM [SEED]"),
+    };
+    let written = std::io::stdout().write_all(&bytes);
+    written.unwrap_or_else(|e| wrong(&format!("ledger_model: {e}")));
+}
