@@ -19,15 +19,15 @@ use Rattle.cba_rules.proofs.RefusalLaws.{seal-accepted, open-accepted}
 use Rattle.cba_rules.proofs.Demands.{demand-2, speaks}
 use Rattle.hub_answer.specs.declared.answer.Reply.{Reply}
 use Rattle.hub_text.specs.declared.request.Asked.{Asked}
-use Rattle.hub_rules.specs.Lines.{Request, Parsed, Writable, parse}
-use Rattle.hub_rules.specs.Lines.Parsed.{asked, malformed}
+use Rattle.hub_grammar.specs.Lines.{Request, Parsed, Writable, parse}
+use Rattle.hub_grammar.specs.Lines.Parsed.{asked, malformed}
 use Rattle.hub_text.specs.Cuts.{part}
 use Rattle.hub_text.specs.Requests.{requestOf, Read}
 use Rattle.hub_rules.specs.Answers.{room, requestAnswer, requestResult, answerOf, resultOf, acceptedSet, lineText, lineFor}
 use Rattle.hub_text.proofs.CutLaws.{part-length}
 use Rattle.text.specs.Writing.{Puts}
 use Rattle.hub_answer.specs.Replies.{resultBytes, resultLength, Sized, Called, Refused, Replies, Answers}
-use Rattle.hub_rules.proofs.Grammar.{grammar}
+use Rattle.hub_grammar.proofs.Grammar.{grammar}
 
 -- ---- an output that is long enough does not count
 

@@ -12,7 +12,7 @@ use Rattle.hub_text.specs.declared.request.Asked.{Asked}
 use Rattle.hub_answer.specs.declared.answer.Reply.{Reply}
 use Rattle.hub_answer.specs.declared.answer.Answer.{Answer}
 use Rattle.text.specs.Writing.{Puts}
-use Rattle.hub_rules.specs.Lines.{Request, Parsed, parse}
+use Rattle.hub_grammar.specs.Lines.{Request, Parsed, parse}
 use Rattle.hub_rules.specs.Answers.{answerOf, resultOf, acceptedSet, lineFor}
 use Rattle.hub_text.specs.Requests.{bytesRoom}
 

@@ -11,7 +11,7 @@ ghost use Prim.Native.Nat.{_≤_, _<_};
 ghost use lib.ListN.{length};
 ghost use Rattle.cba_mode.specs.Sets.{isSet};
 ghost use Rattle.cba_rules.specs.Checks.{setTag};
-ghost use Rattle.hub_rules.specs.Lines.{parse};
+ghost use Rattle.hub_grammar.specs.Lines.{parse};
 ghost use Rattle.hub_text.specs.Requests.{bytesRoom, requestOf};
 ghost use Rattle.hub_answer.specs.Replies.{resultRoom, InOrder, resultBytes, Sized, Called, Refused, Replies, Answers};
 ghost use Rattle.hub_rules.specs.Stream.{lineRoom};

@@ -13,8 +13,8 @@ use Rattle.cba_mode.specs.Open.{isFalse}
 use Rattle.cba_rules.specs.Checks.{sealRows, openRows}
 use Rattle.cba_rules.specs.Refusals.{opening, sealAnswer, openAnswer}
 use Rattle.text.proofs.NumeralLaws.{both}
-use Rattle.hub_rules.specs.Lines.{Parsed}
-use Rattle.hub_rules.specs.Lines.Parsed.{asked, malformed}
+use Rattle.hub_grammar.specs.Lines.{Parsed}
+use Rattle.hub_grammar.specs.Lines.Parsed.{asked, malformed}
 use Rattle.hub_rules.specs.Answers.{room, requestAnswer, answerOf}
 
 -- the numbers of the rows are at most 8

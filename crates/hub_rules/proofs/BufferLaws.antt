@@ -11,7 +11,7 @@ use lib.Dec.{eqb}
 use lib.ListN.{length, take, drop, length-append, length-take, length-drop, take-append-drop}
 use lib.Seq.{take-at, take-nil, length-take-le}
 use Rattle.octets.proofs.Parts.{drop-put}
-use Rattle.hub_rules.specs.Lines.{lengthBefore}
+use Rattle.hub_grammar.specs.Lines.{lengthBefore}
 use Rattle.hub_rules.specs.Stream.{lineKept, State, over, longer, next, after, overlaid, stored, buffer}
 use Rattle.hub_rules.proofs.StreamLaws.{stays-open}
 use Rattle.octets.proofs.Tests.{le-or-lt}

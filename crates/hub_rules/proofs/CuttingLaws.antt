@@ -11,10 +11,10 @@ use lib.Dec.{eqb}
 use lib.ListN.{length, take, replicate}
 use Rattle.octets.specs.Strings.{eqs}
 use Rattle.octets.proofs.Tests.{eqs-other}
-use Rattle.hub_rules.specs.Lines.{lineLimit, parse}
-use Rattle.hub_rules.specs.Lines.Parsed.{malformed}
+use Rattle.hub_grammar.specs.Lines.{lineLimit, parse}
+use Rattle.hub_grammar.specs.Lines.Parsed.{malformed}
 use Rattle.hub_rules.specs.Answers.{acceptedSet, lineFor}
-use Rattle.hub_rules.proofs.Grammar.{parse-long}
+use Rattle.hub_grammar.proofs.Grammar.{parse-long}
 use Rattle.hub_rules.proofs.StreamLaws.{after-append, output-append, over-stays, kept, kept-more}
 use Rattle.hub_rules.specs.Whole.{lastLine, firstLine, heading, wrongFirst, summaryHead, linesFrom, atMost, answersFrom, countFor, rowFor, rowsFrom, afterFirst, outputOf, hub}
 use Rattle.hub_rules.specs.Stream.{lineKept, State, begin, over, counted, ended, endSays, longer, next, says, after, output, pending, rowsOf, summary, ending, outputs, joined, Cutting}

@@ -8,7 +8,7 @@ use Rattle.answers.specs.Rows.{answer}
 use Rattle.cba_rules.specs.Checks.{sealRows, openRows}
 use Rattle.cba_rules.specs.Refusals.{sealAnswer, openAnswer}
 use Rattle.text.specs.Numerals.{decimalOf, isDigit, allDigits, isSetNumber, decimalValue, hexDigit, hex, shown, isHexDigit, hexValue, areHexPairs, unhex, isValue, valueOf}
-use Rattle.hub_rules.specs.Lines.{joinFirst, wordsOf, fromSix, fromWords, parse}
+use Rattle.hub_grammar.specs.Lines.{joinFirst, wordsOf, fromSix, fromWords, parse}
 use Rattle.hub_rules.specs.Answers.{requestAnswer, requestResult, answerOf, resultOf, acceptedSet, lineText, lineFor}
 use Rattle.hub_rules.specs.Whole.{firstLine, heading, summaryHead, linesFrom, atMost, answersFrom, countFor, rowFor, rowsFrom, afterFirst, outputOf, hub}
 

@@ -1,5 +1,3 @@
-pub mod WordLaws
-pub mod Grammar
 pub mod AnswerLaws
 pub mod Example
 pub mod StreamLaws

@@ -11,7 +11,7 @@ use lib.Dec.{eqb}
 use lib.ListN.{length, take, getD, set, length-take}
 use lib.Seq.{take-all, take-at, take-append-le, length-take-le}
 use Rattle.octets.proofs.Tests.{le-or-lt}
-use Rattle.hub_rules.specs.Lines.{lengthBefore}
+use Rattle.hub_grammar.specs.Lines.{lengthBefore}
 use Rattle.hub_rules.specs.Whole.{rowFor}
 use Rattle.hub_rules.specs.Stream.{lineKept, State, over, counted, ended, endSays, longer, next, says, after, output, rowsOf}
 

@@ -8,7 +8,7 @@ use native.Mathlib.Omega.{arith}
 use borrow.Author.Tests.{lt-ltb, le-ltb}
 use lib.Dec.{eqb}
 use lib.ListN.{length, take, drop, length-append, drop-of-length-le}
-use Rattle.hub_rules.specs.Lines.{lengthBefore}
+use Rattle.hub_grammar.specs.Lines.{lengthBefore}
 use Rattle.hub_rules.specs.Stream.{lineRoom, State, over, next, says, after, output, firstLength, lineUsed, usedFrom}
 use Rattle.hub_rules.proofs.StreamLaws.{stays-open}
 

@@ -8,8 +8,8 @@ use lib.ListN.{length, replicate}
 use Rattle.cba_mode.specs.Open.{messageOf}
 use Rattle.cba_rules.specs.Refusals.{sealing, opening, sealAnswer, openAnswer}
 use Rattle.text.specs.Numerals.{decimal, shown}
-use Rattle.hub_rules.specs.Lines.{Request, Parsed, parse}
-use Rattle.hub_rules.specs.Lines.Parsed.{asked, malformed}
+use Rattle.hub_grammar.specs.Lines.{Request, Parsed, parse}
+use Rattle.hub_grammar.specs.Lines.Parsed.{asked, malformed}
 
 -- an output that is always long enough
 abbrev pub room : Request → List ℕ

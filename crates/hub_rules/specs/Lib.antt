@@ -1,4 +1,3 @@
-pub mod Lines
 pub mod Answers
 pub mod Whole
 pub mod Stream

@@ -7,7 +7,7 @@ use Prim.Native.Nat.{ℕ, suc, _+_, _-_}
 use lib.Dec.{eqb, ltb}
 use lib.ListN.{length, take, drop, replicate}
 use Rattle.octets.specs.Strings.{eqs}
-use Rattle.hub_rules.specs.Lines.{lineLimit, parse}
+use Rattle.hub_grammar.specs.Lines.{lineLimit, parse}
 use Rattle.hub_rules.specs.Answers.{acceptedSet, lineFor}
 use Rattle.hub_rules.specs.Whole.{lastLine, firstLine, heading, wrongFirst, summaryHead, rowFor, hub}
 

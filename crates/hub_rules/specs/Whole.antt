@@ -7,7 +7,7 @@ use lib.Dec.{eqb}
 use lib.ListN.{length}
 use Rattle.octets.specs.Strings.{eqs}
 use Rattle.text.specs.Numerals.{decimal}
-use Rattle.hub_rules.specs.Lines.{parse}
+use Rattle.hub_grammar.specs.Lines.{parse}
 use Rattle.hub_rules.specs.Answers.{acceptedSet, lineFor}
 
 -- the number of the last line that is read

@@ -1,2 +1,2 @@
-// The hub program as definitions: the grammar of a line, what a line is answered, the whole run and
-// the run byte by byte, and their laws. The code begins in `hub_text`.
+// The hub program as definitions: what a line is answered, the whole run and the run byte by byte, and
+// their laws. The code begins in `hub_answer`.

@@ -10,7 +10,7 @@ use lib.Seq.{take-all, take-at, take-add, drop-drop, length-take-le}
 use mathlib.Core.Logic.{⊎-elim}
 use Rattle.text.proofs.WritingLaws.{middle-length, puts-most, puts-then}
 use Rattle.octets.proofs.Parts.{put-at, to-end}
-use Rattle.hub_rules.specs.Lines.{lengthBefore}
+use Rattle.hub_grammar.specs.Lines.{lengthBefore}
 use Rattle.text.specs.Writing.{Puts}
 use Rattle.hub_run.specs.declared.state.Hub.{Hub}
 use Rattle.hub_run.specs.declared.chunk.Fed.{Fed}

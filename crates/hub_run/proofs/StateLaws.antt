@@ -11,7 +11,7 @@ use lib.Dec.{T, eqb}
 use lib.Seq.{length-take-le}
 use lib.ListN.{length, take, getD, replicate}
 use Rattle.octets.specs.Strings.{eqs}
-use Rattle.hub_rules.specs.Lines.{parse}
+use Rattle.hub_grammar.specs.Lines.{parse}
 use Rattle.hub_rules.specs.Answers.{acceptedSet, lineFor}
 use Rattle.text.specs.Writing.{Puts}
 use Rattle.hub_run.specs.declared.state.Hub.{Hub}

@@ -14,7 +14,7 @@ use native.Mathlib.Nat.{le-antisymm}
 use native.Mathlib.Numerals.{add-one}
 use Rattle.hub_text.specs.declared.cut.Cut.{Cut}
 use Rattle.hub_text.specs.Cuts.{wordEnd, part, noCut, Cuts}
-use Rattle.hub_rules.specs.Lines.{joinFirst, wordsOf, lengthBefore}
+use Rattle.hub_grammar.specs.Lines.{joinFirst, wordsOf, lengthBefore}
 use Rattle.octets.proofs.Tests.{le-or-lt}
 
 pub before-most : (x : ℕ) (s : List ℕ) → lengthBefore x s ≤ length s

@@ -16,8 +16,8 @@ use Rattle.octets.proofs.Parts.{put-at, drop-put}
 use Rattle.hub_text.specs.declared.cut.Cut.{Cut}
 use Rattle.hub_text.specs.declared.request.Asked.{Asked}
 use Rattle.text.specs.Numerals.{isSetNumber, decimalValue, isValue, valueOf}
-use Rattle.hub_rules.specs.Lines.{lineLimit, sealWord, openWord, fromSix, fromWords, parse}
-use Rattle.hub_rules.specs.Lines.Parsed.{malformed}
+use Rattle.hub_grammar.specs.Lines.{lineLimit, sealWord, openWord, fromSix, fromWords, parse}
+use Rattle.hub_grammar.specs.Lines.Parsed.{malformed}
 use Rattle.hub_text.specs.Cuts.{part, Cuts}
 use Rattle.hub_text.specs.Requests.{bytesRoom, wellFormedAt, Asks, Next, noneAsked, Read}
 use Rattle.text.proofs.HexLaws.{of-dash, of-pairs, length-unhex}

@@ -7,7 +7,7 @@ use Prim.Native.Nat.{ℕ, _+_, _-_, _<_}
 use lib.Dec.{eqb}
 use lib.ListN.{length, take, drop}
 use Rattle.hub_text.specs.declared.cut.Cut.{Cut}
-use Rattle.hub_rules.specs.Lines.{wordsOf, lengthBefore}
+use Rattle.hub_grammar.specs.Lines.{wordsOf, lengthBefore}
 
 -- where the word ends that begins at a place
 abbrev pub wordEnd : List ℕ → ℕ → ℕ

@@ -9,8 +9,8 @@ use Rattle.octets.specs.Strings.{eqs}
 use Rattle.hub_text.specs.declared.cut.Cut.{Cut}
 use Rattle.hub_text.specs.declared.request.Asked.{Asked}
 use Rattle.text.specs.Numerals.{isSetNumber, isValue}
-use Rattle.hub_rules.specs.Lines.{lineLimit, Request, sealWord, openWord, parse}
-use Rattle.hub_rules.specs.Lines.Parsed.{asked, malformed}
+use Rattle.hub_grammar.specs.Lines.{lineLimit, Request, sealWord, openWord, parse}
+use Rattle.hub_grammar.specs.Lines.Parsed.{asked, malformed}
 use Rattle.hub_text.specs.Cuts.{part, Cuts}
 
 -- room for the bytes that a line's strings stand for, two characters each

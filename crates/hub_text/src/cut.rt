@@ -2,7 +2,7 @@
 ghost use mathlib.Core.Path.{_≡_};
 ghost use Prim.Native.Nat.{_+_, _≤_};
 ghost use lib.ListN.{length};
-ghost use Rattle.hub_rules.specs.Lines.{lengthBefore};
+ghost use Rattle.hub_grammar.specs.Lines.{lengthBefore};
 ghost use Rattle.hub_text.specs.Cuts.{wordEnd, noCut, Cuts};
 
 // The places of the five spaces, where there are six words.

@@ -11,7 +11,7 @@ ghost use Prim.Native.Nat.{_+_, _/_, _≤_};
 ghost use lib.ListN.{length};
 ghost use Rattle.octets.specs.Strings.{eqs};
 ghost use Rattle.text.specs.Numerals.{isValue, valueOf};
-ghost use Rattle.hub_rules.specs.Lines.{lineLimit, sealWord, openWord};
+ghost use Rattle.hub_grammar.specs.Lines.{lineLimit, sealWord, openWord};
 ghost use Rattle.hub_text.specs.Cuts.{part, Cuts};
 ghost use Rattle.hub_text.specs.Requests.{bytesRoom, wellFormedAt, Asks, Next, noneAsked, Read};
 

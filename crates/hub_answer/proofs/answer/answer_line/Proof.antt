@@ -4,7 +4,7 @@ use mathlib.Core.Path.{_≡_}
 use native.Mathlib.Omega.{arith}
 use borrow.Author.Needs.{needs}
 use lib.ListN.{length, length-take}
-use Rattle.hub_rules.specs.Lines.{parse}
+use Rattle.hub_grammar.specs.Lines.{parse}
 use Rattle.hub_rules.proofs.AnswerLaws.{answer-most}
 use Rattle.hub_answer.proofs.AnswerLaws.{answered}
 use Rattle.hub_answer.proofs.answer.answer_line.Statement.{statement}

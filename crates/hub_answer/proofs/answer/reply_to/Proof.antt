@@ -4,7 +4,7 @@ use Prim.Native.Nat.{_+_, _≤_}
 use borrow.Author.Needs.{needs}
 use borrow.Author.Tests.{not-true, not-false}
 use lib.ListN.{length}
-use Rattle.hub_rules.proofs.Grammar.{parse-long}
+use Rattle.hub_grammar.proofs.Grammar.{parse-long}
 use Rattle.hub_answer.proofs.AnswerLaws.{reply-malformed, read-refused, read-sized, read-accepted}
 use Rattle.hub_answer.proofs.answer.reply_to.Statement.{statement}
 use Rattle.hub_answer.proofs.answer.reply_to.Tie as tie

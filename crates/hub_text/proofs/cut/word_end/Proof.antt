@@ -4,7 +4,7 @@ use mathlib.Core.Path.{ap, _∙_}
 use Prim.Native.Nat.{ℕ, _+_}
 use native.Mathlib.Omega.{arith}
 use lib.ListN.{length, length-drop}
-use Rattle.hub_rules.specs.Lines.{lengthBefore}
+use Rattle.hub_grammar.specs.Lines.{lengthBefore}
 use Rattle.octets.proofs.Parts.{to-end}
 use borrow.Author.Needs.{needs}
 use Rattle.hub_text.proofs.cut.word_end.Statement.{statement}

@@ -12,9 +12,9 @@ use borrow.Author.Tests.{leb-true, eqb-true, le-leb, lt-leb}
 use Rattle.octets.specs.Strings.{Bytes, eqs}
 use Rattle.octets.proofs.Tests.{eqs→eq}
 use Rattle.text.specs.Numerals.{decimal, isSetNumber, shown, isValue}
-use Rattle.hub_rules.specs.Lines.{lineLimit, sealWord, openWord, Request, Parsed, spaced, written, Writable, wordsOf, fromSix, fromWords, parse, Grammar}
-use Rattle.hub_rules.specs.Lines.Parsed.{asked, malformed}
-use Rattle.hub_rules.proofs.WordLaws.{Solids, words-spaced, spaced-words}
+use Rattle.hub_grammar.specs.Lines.{lineLimit, sealWord, openWord, Request, Parsed, spaced, written, Writable, wordsOf, fromSix, fromWords, parse, Grammar}
+use Rattle.hub_grammar.specs.Lines.Parsed.{asked, malformed}
+use Rattle.hub_grammar.proofs.WordLaws.{Solids, words-spaced, spaced-words}
 use Rattle.text.proofs.NumeralLaws.{Solid, both, set-back, set-number, value-back, value}
 
 -- the words that a request is written as

@@ -8,7 +8,7 @@ use native.Mathlib.Omega.{arith}
 use lib.Dec.{eqb}
 use borrow.Author.Tests.{eqb-true, ne-eqb}
 use Rattle.text.proofs.NumeralLaws.{Solid}
-use Rattle.hub_rules.specs.Lines.{spaced, joinFirst, wordsOf}
+use Rattle.hub_grammar.specs.Lines.{spaced, joinFirst, wordsOf}
 
 abbrev pub Solids : List (List ℕ) → Type 0
 Solids [] = Unit {0}
