@@ -23,7 +23,7 @@ use Rattle.cba_rules.proofs.RefusalLaws.{Common, Opens, seal-refusals, seal-acc
 use Rattle.plain.specs.declared.sets.Parameters.{Parameters}
 use Rattle.plain.specs.declared.sets.Set.the-variants.{Known, Unknown}
 use Rattle.plain.specs.Lookup.{lookupOf}
-use Rattle.plain.specs.Accepted.{Sealable, Openable, OpenedBy}
+use Rattle.plain.specs.Accepted.{Sealable, SealedBy, Openable, OpenedBy}
 use Rattle.plain.proofs.SetLaws.{is-known, is-unknown, its-values}
 
 -- ---- the groups of the checks, put together
@@ -70,7 +70,7 @@ module _ (set : ℕ) (p : Parameters) (known : lookupOf set ≡ Known p) (key N 
 
   -- where the code wrote ENC
   pub seal-written : (r : List ℕ) → sealAnswer set key N A M out ≡ 0 →
-      r ≡ ENC (cipher key) (p .tau) (p .capacity) N A M ++ drop (length M + tagBytes (p .tau)) out → length r ≡ length out → SealCall set key N A M out 0 r
+      SealedBy p key N A M out r → length r ≡ length out → SealCall set key N A M out 0 r
   unfolding sealOutput sealLeaves sealing
   seal-written r e w l =
       let C = sealing set key N A M in

@@ -10,18 +10,15 @@ use crate::sets::lookup;
 use cba_sealing::seal_message;
 use cba_steps::data_hash;
 ghost use mathlib.Core.Path.{_≡_};
-ghost use mathlib.Core.List.{_++_};
-ghost use Prim.Native.Nat.{_+_, _/_};
-ghost use lib.ListN.{length, drop};
+ghost use Prim.Native.Nat.{_/_};
+ghost use lib.ListN.{length};
 ghost use Rattle.answers.specs.Rows.{answer};
-ghost use Rattle.fips197.specs.Cipher.{cipher};
 ghost use Rattle.cba_mode.specs.Sets.{tagBytes};
-ghost use Rattle.cba_mode.specs.Seal.{ENC};
 ghost use Rattle.cba_rules.specs.Checks.{sealChecks};
 ghost use Rattle.cba_rules.specs.Refusals.{SealCall};
 ghost use Rattle.plain.specs.declared.sets.Set.the-variants.{Known};
 ghost use Rattle.plain.specs.Lookup.{lookupOf};
-ghost use Rattle.plain.specs.Accepted.{Sealable};
+ghost use Rattle.plain.specs.Accepted.{Sealable, SealedBy};
 
 // The checks after the set's, in their order.
 fn seal_checks(
@@ -45,8 +42,7 @@ fn seal_checks(
 fn seal_accepted(p: Parameters, key: &[u8], nonce: &[u8], ad: &[u8], message: &[u8], out: &mut [u8])
     requires { ⌜ Sealable p (now key) (length (now nonce)) (length (now ad)) (length (now message)) (length (now out)) ⌝ }
     ensures { λ _. ⌜
-        now (out .exit) ≡ ENC (cipher (now (key .entry))) (p .tau) (p .capacity) (now (nonce .entry)) (now (ad .entry)) (now (message .entry))
-        ++ drop (length (now (message .entry)) + tagBytes (p .tau)) (now (out .entry))
+        SealedBy p (now (key .entry)) (now (nonce .entry)) (now (ad .entry)) (now (message .entry)) (now (out .entry)) (now (out .exit))
         ⌝ }
 {
     let mut ctx = aes::blank();
