@@ -10,7 +10,7 @@
 //   lent: byte 0 is 3; the rest as for seal. The ledger is lent to the call, which changes it in place
 //
 // Data, message and what the output holds before a call are made from their seeds by `fill`; the output's
-// seed is 165. The files stdin and stdout beside src/ are what tests/ledger_model.rs writes, the
+// seed is 165. The files stdin and stdout beside src/ are what tests/ledger_model writes, the
 // ledger written a second time, which ./test makes again and compares.
 use ledger::Ledger;
 use libc::STDIN_FILENO;
