@@ -1,25 +1,35 @@
 -- What a call that uses a key holds of it, and what the calls answer.
 -- Assumes nothing.
-use mathlib.Core.Bool.{cond}
+use mathlib.Core.Path.{_≡_}
+use mathlib.Core.Bool.{true, cond}
 use mathlib.Core.List.{List, _++_}
-use Prim.Native.Nat.{ℕ, _-_}
-use lib.ListN.{length, replicate}
-use Rattle.octets.specs.Strings.{table}
-use Rattle.field.specs.SBox.{invSBox}
-use Rattle.aes_tables.specs.Round.{tables}
+use Prim.Native.Nat.{ℕ, _≤_}
+use lib.ListN.{drop, replicate}
+use Rattle.octets.specs.Strings.{over}
+use Rattle.aes_tables.specs.Round.{forward, inverses}
 use Rattle.fips197.specs.Schedule.{isKey, keyExpansion}
 
--- a context with no key: the round tables, and zeros
-abbrev pub blankContext : List ℕ
-blankContext = tables ++ replicate 496 0
+-- the round keys of a key, in 240 bytes
+unfoldable pub roundKeys : List ℕ → List ℕ
+roundKeys key = over (keyExpansion key) (replicate 240 0)
 
--- the tables that the rounds read and the round keys, in 4,592 bytes; nothing outside this crate looks inside
-unfoldable pub contextOf : List ℕ → List ℕ
-contextOf key = tables ++ (table invSBox 256 ++ (keyExpansion key ++ replicate (240 - length (keyExpansion key)) 0))
+-- Tables and round keys, in an array that is lent. Nothing outside this crate looks inside.
+pub record Holds (tables key ctx : List ℕ) : Type 0 where
+  pub good : isKey key ≡ true
+  pub context : ctx ≡ tables ++ roundKeys key
 
--- the context after a key was set: a string that is no key leaves it as it was
-unfoldable pub keyed : List ℕ → List ℕ → List ℕ
-keyed key ctx = cond (isKey key) (contextOf key) ctx
+-- what E under a key reads, in 2,288 bytes, and D, in 2,544
+abbrev pub Encrypts : List ℕ → List ℕ → Type 0
+Encrypts = Holds forward
+
+abbrev pub Decrypts : List ℕ → List ℕ → Type 0
+Decrypts = Holds inverses
+
+-- the round keys stand in ctx from a place on
+pub record KeysAt (at : ℕ) (key ctx : List ℕ) : Type 0 where
+  pub good : isKey key ≡ true
+  pub within : at ≤ 2304
+  pub stand : drop at ctx ≡ roundKeys key
 
 -- the answer to a call with a key: 0, or 2 where it has none of the three lengths
 unfoldable pub answer : List ℕ → ℕ

@@ -6,6 +6,7 @@ use Prim.Native.Nat.{ℕ, _+_, _*_, _<_}
 use lib.ListN.{length, getD}
 use Rattle.octets.specs.Xor.{xors}
 use Rattle.field.specs.Field.{dot}
+use Rattle.field.specs.SBox.{sBox}
 use Rattle.aes_schedule.specs.Words.{wordAt}
 
 -- the words for four bytes in a table of entries of eight bytes, added: each from one byte less of its entry on
@@ -15,6 +16,10 @@ addedUp t x y z o = xors (xors (xors (wordAt t (8 * x)) (wordAt t (8 * y + 3))) 
 -- the matrix whose first row is p q u v, and whose other rows are the one above turned right by one, times a column
 abbrev pub timesColumn : ℕ → ℕ → ℕ → ℕ → ℕ → ℕ → ℕ → ℕ → List ℕ
 timesColumn p q u v a b c d = dot p q u v a b c d ∷ dot p q u v b c d a ∷ dot p q u v c d a b ∷ dot p q u v d a b c ∷ []
+
+-- the S-box on four bytes
+abbrev pub subBoxed : ℕ → ℕ → ℕ → ℕ → List ℕ
+subBoxed x y z o = sBox x ∷ sBox y ∷ sBox z ∷ sBox o ∷ []
 
 -- t has the entries e of the 256 bytes, of eight bytes each
 pub record Entries (e : ℕ → List ℕ) (t : List ℕ) : Type 0 where

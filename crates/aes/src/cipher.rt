@@ -1,23 +1,23 @@
 // E: encryption, and the states on its way.
 use crate::context::Context;
+use crate::context::KEYS;
 use crate::context::round_keys;
 use crate::context::round_table;
 use crate::context::rounds_of;
 use crate::table::add_key;
-use crate::table::mix;
-use crate::table::shift;
+use crate::table::sub_shift;
+use crate::table::sub_shift_mix;
 use aes_schedule::Words;
 use aes_schedule::read;
 use aes_schedule::write;
 ghost use mathlib.Core.Path.{_≡_};
-ghost use mathlib.Core.Bool.{true};
 ghost use Prim.Native.Nat.{_*_, _≤_, _<_, suc};
 ghost use lib.ListN.{length};
 ghost use Rattle.octets.specs.Blocks.{block};
 ghost use Rattle.aes_tables.specs.Round.{entry};
-ghost use Rattle.fips197.specs.Schedule.{isKey, keyExpansion};
+ghost use Rattle.fips197.specs.Schedule.{keyExpansion};
 ghost use Rattle.fips197.specs.Cipher.{fullRound, rounds, cipher, cipherOver, keyRounds};
-ghost use Rattle.aes.specs.Context.{contextOf};
+ghost use Rattle.aes.specs.Context.{Encrypts};
 ghost use Rattle.aes_schedule.specs.Words.{blockOf};
 ghost use Rattle.aes.specs.Tables.{Entries};
 
@@ -27,7 +27,7 @@ fn full_round(t: &[u8], w: &[u8], n: usize, k: Words) -> Words
     requires { ⌜ 16 * suc n ≤ length (now w) ⌝ }
     ensures { λ r. ⌜ blockOf r ≡ fullRound (now (w .entry)) n (blockOf k) ⌝ }
 {
-    add_key(w, n, mix(t, k))
+    add_key(w, n, sub_shift_mix(t, k))
 }
 
 // The first AddRoundKey and n full rounds, with the round table t and the schedule w.
@@ -53,19 +53,18 @@ fn encipher(t: &[u8], w: &[u8], nr: usize, block: [u8; 16]) -> [u8; 16]
     ensures { λ r. ⌜ r ≡ cipherOver (now (w .entry)) nr block ⌝ }
 {
     let k = full_rounds(t, w, nr - 1, block);
-    write(add_key(w, nr, shift(t, k)))
+    write(add_key(w, nr, sub_shift(t, k)))
 }
 
 // E: the block under the key, whose context is lent.
 pub fn encrypt(key: &[u8], ctx: &Context, block: [u8; 16]) -> [u8; 16]
-    requires { ⌜ isKey (now key) ≡ true ⌝ }
-    requires { ⌜ now ctx ≡ contextOf (now key) ⌝ }
+    requires { ⌜ Encrypts (now key) (now ctx) ⌝ }
     ensures { λ r. ⌜ r ≡ cipher (now (key .entry)) block ⌝ }
 {
     let c = &ctx[..];
     encipher(
         round_table(key, c),
-        round_keys(key, c),
+        round_keys(key, c, KEYS),
         rounds_of(key),
         block,
     )
@@ -73,19 +72,17 @@ pub fn encrypt(key: &[u8], ctx: &Context, block: [u8; 16]) -> [u8; 16]
 
 // The State of encryption after its first AddRoundKey and n full rounds, for a tracer.
 pub fn state_after(key: &[u8], ctx: &Context, n: usize, block: [u8; 16]) -> [u8; 16]
-    requires { ⌜ isKey (now key) ≡ true ⌝ }
-    requires { ⌜ now ctx ≡ contextOf (now key) ⌝ }
+    requires { ⌜ Encrypts (now key) (now ctx) ⌝ }
     requires { ⌜ n < keyRounds (now key) ⌝ }
     ensures { λ r. ⌜ r ≡ rounds (keyExpansion (now (key .entry))) n block ⌝ }
 {
     let c = &ctx[..];
-    write(full_rounds(round_table(key, c), round_keys(key, c), n, block))
+    write(full_rounds(round_table(key, c), round_keys(key, c, KEYS), n, block))
 }
 
 // Round key n of the key's schedule, for a tracer.
 pub fn round_key(key: &[u8], ctx: &Context, n: usize) -> [u8; 16]
-    requires { ⌜ isKey (now key) ≡ true ⌝ }
-    requires { ⌜ now ctx ≡ contextOf (now key) ⌝ }
+    requires { ⌜ Encrypts (now key) (now ctx) ⌝ }
     requires { ⌜ n ≤ keyRounds (now key) ⌝ }
     ensures { λ r. ⌜ r ≡ block 16 (keyExpansion (now (key .entry))) n ⌝ }
 {
@@ -96,5 +93,5 @@ pub fn round_key(key: &[u8], ctx: &Context, n: usize) -> [u8; 16]
         c: 0,
         d: 0,
     };
-    write(add_key(round_keys(key, c), n, zeros))
+    write(add_key(round_keys(key, c, KEYS), n, zeros))
 }

@@ -1,28 +1,33 @@
-// What a call that uses a key holds of it: the tables that the rounds read and the round keys, in
-// one array that the caller owns and lends.
+// What a call that uses a key holds of it, in arrays that the caller owns and lends: a context for
+// encryption, and one for decryption. Each has the tables that its rounds read, and the round keys
+// after them. A call that only encrypts stores no table of decryption.
 use aes_schedule::expand;
 ghost use mathlib.Core.Path.{_≡_};
 ghost use mathlib.Core.Bool.{true};
+ghost use mathlib.Core.List.{_++_};
 ghost use Prim.Native.Nat.{_*_, _≤_, suc};
-ghost use lib.ListN.{length};
+ghost use lib.ListN.{length, replicate};
 ghost use Rattle.octets.specs.Strings.{table};
 ghost use Rattle.field.specs.SBox.{invSBox};
-ghost use Rattle.aes_tables.specs.Round.{entry, inverseEntry};
+ghost use Rattle.aes_tables.specs.Round.{entry, inverseEntry, forward, inverses};
 ghost use Rattle.fips197.specs.Schedule.{isKey, keyExpansion};
 ghost use Rattle.fips197.specs.Cipher.{keyRounds};
-ghost use Rattle.aes.specs.Context.{blankContext, contextOf, keyed};
+ghost use Rattle.aes.specs.Context.{Encrypts, Decrypts, KeysAt};
 ghost use Rattle.aes.specs.Tables.{Entries};
 
-pub type Context = [u8; 4592];
+pub type Context = [u8; 2288];
 
-// A context with no key.
-pub fn blank() -> Context
-    ensures { λ r. ⌜ r ≡ blankContext ⌝ }
-{
-    aes_tables::round_tables()
-}
+pub type Inverse = [u8; 2544];
 
-fn is_key(key: &[u8]) -> bool
+// Where the parts after the first begin: the round keys of a context; the inverse S-box and the round
+// keys of the other.
+pub const KEYS: usize = 2048;
+
+const INVERSE_BOX: usize = 2048;
+
+pub const INVERSE_KEYS: usize = 2304;
+
+pub fn is_key(key: &[u8]) -> bool
     ensures { λ r. ⌜ r ≡ isKey (now (key .entry)) ⌝ }
 {
     let n = key.len();
@@ -35,63 +40,72 @@ fn is_key(key: &[u8]) -> bool
     n == 32
 }
 
-// Fills a blank context for a key. The tables are read here, once for each key, and lent from here
-// on: a constant table is stored to the stack at every call of a function that names it.
+// The two contexts with no key. They are stored here, once for each key, and lent from here on: a
+// constant is stored to the stack at every call of a function that names it.
+
+pub fn blank() -> Context
+    ensures { λ r. ⌜ r ≡ forward ++ replicate 240 0 ⌝ }
+{
+    aes_tables::forward()
+}
+
+pub fn blank_inverse() -> Inverse
+    ensures { λ r. ⌜ r ≡ inverses ++ replicate 240 0 ⌝ }
+{
+    aes_tables::inverses()
+}
+
+// Fills a blank context for a key.
 pub fn fill(key: &[u8], ctx: &mut [u8])
     requires { ⌜ isKey (now key) ≡ true ⌝ }
-    requires { ⌜ length (now ctx) ≡ 4592 ⌝ }
-    requires { ⌜ now ctx ≡ blankContext ⌝ }
-    ensures { λ _. ⌜ now (ctx .exit) ≡ contextOf (now (key .entry)) ⌝ }
+    requires { ⌜ now ctx ≡ forward ++ replicate 240 0 ⌝ }
+    ensures { λ _. ⌜ Encrypts (now (key .entry)) (now (ctx .exit)) ⌝ }
 {
     let s = field::s_box();
-    let t = field::inverse_s_box();
-    octets::put(&mut ctx[4096..], &t);
-    expand(key, &s, &mut ctx[4352..]);
+    expand(key, &s, &mut ctx[KEYS..]);
 }
 
-// Fills a context for a key and answers true, or answers false and leaves it where the key has not
-// 16, 24 or 32 bytes.
-pub fn set_key(key: &[u8], ctx: &mut Context) -> bool
-    ensures { λ r. ⌜ (r ≡ isKey (now (key .entry))) × (now (ctx .exit) ≡ keyed (now (key .entry)) (now (ctx .entry))) ⌝ }
+// Fills the other, from the key's context.
+pub fn fill_inverse(key: &[u8], ctx: &Context, inv: &mut [u8])
+    requires { ⌜ Encrypts (now key) (now ctx) ⌝ }
+    requires { ⌜ now inv ≡ inverses ++ replicate 240 0 ⌝ }
+    ensures { λ _. ⌜ Decrypts (now (key .entry)) (now (inv .exit)) ⌝ }
 {
-    if is_key(key) {
-        *ctx = blank();
-        fill(key, ctx);
-        return true;
-    }
-    false
+    let c = &ctx[..];
+    octets::put(&mut inv[INVERSE_KEYS..], &c[KEYS..]);
 }
 
-// The parts of a context that the rounds read.
-
-pub fn inverse_s_box<'a>(key: &[u8], ctx: &'a [u8]) -> &'a [u8]
-    requires { ⌜ now ctx ≡ contextOf (now key) ⌝ }
-    ensures { λ r. ⌜ now r ≡ table invSBox 256 ⌝ }
-{
-    &ctx[4096..4352]
-}
+// The parts that the rounds read.
 
 pub fn round_table<'a>(key: &[u8], ctx: &'a [u8]) -> &'a [u8]
-    requires { ⌜ now ctx ≡ contextOf (now key) ⌝ }
+    requires { ⌜ Encrypts (now key) (now ctx) ⌝ }
     ensures { λ r. ⌜ Entries entry (now r) ⌝ }
 {
-    &ctx[..2048]
+    &ctx[..KEYS]
 }
 
-pub fn inverse_table<'a>(key: &[u8], ctx: &'a [u8]) -> &'a [u8]
-    requires { ⌜ now ctx ≡ contextOf (now key) ⌝ }
+// The round keys, from their place on.
+pub fn round_keys<'a>(key: &[u8], ctx: &'a [u8], at: usize) -> &'a [u8]
+    requires { ⌜ KeysAt at (now key) (now ctx) ⌝ }
+    ensures { λ r. ⌜ now r ≡ keyExpansion (now (key .entry)) ⌝ }
+    ensures { λ r. ⌜ length (now r) ≡ 16 * suc (keyRounds (now (key .entry))) ⌝ }
+{
+    let n = 16 * rounds_of(key) + 16;
+    &ctx[at..at + n]
+}
+
+pub fn inverse_table<'a>(key: &[u8], inv: &'a [u8]) -> &'a [u8]
+    requires { ⌜ Decrypts (now key) (now inv) ⌝ }
     ensures { λ r. ⌜ Entries inverseEntry (now r) ⌝ }
 {
-    &ctx[2048..4096]
+    &inv[..INVERSE_BOX]
 }
 
-pub fn round_keys<'a>(key: &[u8], ctx: &'a [u8]) -> &'a [u8]
-    requires { ⌜ isKey (now key) ≡ true ⌝ }
-    requires { ⌜ now ctx ≡ contextOf (now key) ⌝ }
-    ensures { λ r. ⌜ (now r ≡ keyExpansion (now (key .entry))) × (length (now r) ≡ 16 * suc (keyRounds (now (key .entry)))) ⌝ }
+pub fn inverse_s_box<'a>(key: &[u8], inv: &'a [u8]) -> &'a [u8]
+    requires { ⌜ Decrypts (now key) (now inv) ⌝ }
+    ensures { λ r. ⌜ now r ≡ table invSBox 256 ⌝ }
 {
-    let end = 4368 + 16 * rounds_of(key);
-    &ctx[4352..end]
+    &inv[INVERSE_BOX..INVERSE_KEYS]
 }
 
 // The number of rounds that goes with a key.

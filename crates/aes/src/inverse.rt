@@ -1,5 +1,6 @@
 // D: decryption, on words, step by step.
-use crate::context::Context;
+use crate::context::INVERSE_KEYS;
+use crate::context::Inverse;
 use crate::context::inverse_s_box;
 use crate::context::inverse_table;
 use crate::context::round_keys;
@@ -11,21 +12,19 @@ use aes_schedule::look_up;
 use aes_schedule::read;
 use aes_schedule::write;
 ghost use mathlib.Core.Path.{_≡_};
-ghost use mathlib.Core.Bool.{true};
 ghost use Prim.Native.Nat.{_-_, _*_, _≤_, suc};
 ghost use lib.ListN.{length};
 ghost use Rattle.octets.specs.Strings.{table};
 ghost use Rattle.field.specs.SBox.{invSBox};
 ghost use Rattle.aes_tables.specs.Round.{inverseEntry};
-ghost use Rattle.fips197.specs.Schedule.{isKey};
 ghost use Rattle.fips197.specs.Steps.{invSubBytes, invShiftRows, invMixColumns};
 ghost use Rattle.fips197.specs.Cipher.{fullInvRound, invRounds, invCipher, invCipherOver};
-ghost use Rattle.aes.specs.Context.{contextOf};
+ghost use Rattle.aes.specs.Context.{Decrypts};
 ghost use Rattle.aes_schedule.specs.Words.{blockOf};
 ghost use Rattle.aes.specs.Tables.{Entries};
 
 // InvShiftRows, InvSubBytes.
-fn unshift_unsub(t: &[u8], k: Words) -> Words
+fn inv_shift_sub(t: &[u8], k: Words) -> Words
     requires { ⌜ now t ≡ table invSBox 256 ⌝ }
     ensures { λ r. ⌜ blockOf r ≡ invSubBytes (invShiftRows (blockOf k)) ⌝ }
 {
@@ -57,7 +56,7 @@ fn full_inv_round(t: &[u8], u: &[u8], w: &[u8], n: usize, k: Words) -> Words
     requires { ⌜ 16 * suc n ≤ length (now w) ⌝ }
     ensures { λ r. ⌜ blockOf r ≡ fullInvRound (now (w .entry)) n (blockOf k) ⌝ }
 {
-    inv_mix_columns(u, add_key(w, n, unshift_unsub(t, k)))
+    inv_mix_columns(u, add_key(w, n, inv_shift_sub(t, k)))
 }
 
 // The first AddRoundKey, with round key nr, and the full rounds, with round keys nr - 1 to 1; t is
@@ -86,20 +85,19 @@ fn decipher(t: &[u8], u: &[u8], w: &[u8], nr: usize, block: [u8; 16]) -> [u8; 16
     ensures { λ r. ⌜ r ≡ invCipherOver (now (w .entry)) nr block ⌝ }
 {
     let k = full_inv_rounds(t, u, w, nr, block);
-    write(add_key(w, 0, unshift_unsub(t, k)))
+    write(add_key(w, 0, inv_shift_sub(t, k)))
 }
 
-// D: the block under the key, whose context is lent.
-pub fn decrypt(key: &[u8], ctx: &Context, block: [u8; 16]) -> [u8; 16]
-    requires { ⌜ isKey (now key) ≡ true ⌝ }
-    requires { ⌜ now ctx ≡ contextOf (now key) ⌝ }
+// D: the block under the key, whose context for decryption is lent.
+pub fn decrypt(key: &[u8], inv: &Inverse, block: [u8; 16]) -> [u8; 16]
+    requires { ⌜ Decrypts (now key) (now inv) ⌝ }
     ensures { λ r. ⌜ r ≡ invCipher (now (key .entry)) block ⌝ }
 {
-    let c = &ctx[..];
+    let i = &inv[..];
     decipher(
-        inverse_s_box(key, c),
-        inverse_table(key, c),
-        round_keys(key, c),
+        inverse_s_box(key, i),
+        inverse_table(key, i),
+        round_keys(key, i, INVERSE_KEYS),
         rounds_of(key),
         block,
     )

@@ -1,7 +1,7 @@
 // AES of FIPS 197, with keys of 128, 192 and 256 bits, in both directions.
 //
-// A caller that uses a key for several blocks holds a Context: blank() makes one, set_key fills
-// it once, encrypt and decrypt read it. aes_encrypt and aes_decrypt do all of that for one block.
+// A caller that uses a key for several blocks holds its context, and that for decryption where it
+// decrypts. aes_encrypt and aes_decrypt do all of that for one block.
 mod cipher;
 mod context;
 mod inverse;
@@ -11,9 +11,12 @@ pub use cipher::encrypt;
 pub use cipher::round_key;
 pub use cipher::state_after;
 pub use context::Context;
+pub use context::Inverse;
 pub use context::blank;
+pub use context::blank_inverse;
 pub use context::fill;
-pub use context::set_key;
+pub use context::fill_inverse;
+pub use context::is_key;
 pub use inverse::decrypt;
 ghost use mathlib.Core.Path.{_≡_};
 ghost use Rattle.fips197.specs.Cipher.{cipher, invCipher};
@@ -23,29 +26,33 @@ ghost use Rattle.aes.specs.Context.{answer, answered};
 // not 16, 24 or 32 bytes.
 #[no_mangle]
 pub extern "C" fn aes_encrypt(key: &[u8], block: &mut [u8; 16]) -> u32
-    ensures { λ r. ⌜ (r ≡ answer (now (key .entry))) × (now (block .exit) ≡ answered cipher (now (key .entry)) (now (block .entry))) ⌝ }
+    ensures { λ r. ⌜ r ≡ answer (now (key .entry)) ⌝ }
+    ensures { λ _. ⌜ now (block .exit) ≡ answered cipher (now (key .entry)) (now (block .entry)) ⌝ }
 {
-    let mut ctx = blank();
-    if set_key(key, &mut ctx) {
+    if is_key(key) {
+        let mut ctx = blank();
+        fill(key, &mut ctx);
         let b = *block;
         *block = encrypt(key, &ctx, b);
-        0
-    } else {
-        2
+        return 0;
     }
+    2
 }
 
 // Decrypts a block in place, and answers as aes_encrypt does.
 #[no_mangle]
 pub extern "C" fn aes_decrypt(key: &[u8], block: &mut [u8; 16]) -> u32
-    ensures { λ r. ⌜ (r ≡ answer (now (key .entry))) × (now (block .exit) ≡ answered invCipher (now (key .entry)) (now (block .entry))) ⌝ }
+    ensures { λ r. ⌜ r ≡ answer (now (key .entry)) ⌝ }
+    ensures { λ _. ⌜ now (block .exit) ≡ answered invCipher (now (key .entry)) (now (block .entry)) ⌝ }
 {
-    let mut ctx = blank();
-    if set_key(key, &mut ctx) {
+    if is_key(key) {
+        let mut ctx = blank();
+        fill(key, &mut ctx);
+        let mut inv = blank_inverse();
+        fill_inverse(key, &ctx, &mut inv);
         let b = *block;
-        *block = decrypt(key, &ctx, b);
-        0
-    } else {
-        2
+        *block = decrypt(key, &inv, b);
+        return 0;
     }
+    2
 }

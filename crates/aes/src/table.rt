@@ -7,14 +7,12 @@ use aes_schedule::second;
 use aes_schedule::third;
 use aes_schedule::word_at;
 ghost use mathlib.Core.Path.{_≡_};
-ghost use mathlib.Core.List.{[], _∷_};
 ghost use Prim.Native.Nat.{_*_, _/_, _%_, _≤_, suc};
 ghost use lib.ListN.{length};
-ghost use Rattle.field.specs.SBox.{sBox};
 ghost use Rattle.aes_tables.specs.Round.{entry};
 ghost use Rattle.fips197.specs.Steps.{subBytes, shiftRows, mixColumns, addRoundKey};
 ghost use Rattle.aes_schedule.specs.Words.{bytesOf, blockOf};
-ghost use Rattle.aes.specs.Tables.{addedUp, Entries};
+ghost use Rattle.aes.specs.Tables.{addedUp, subBoxed, Entries};
 
 // A column under a matrix, by its table: its rows come from four words.
 pub fn mixed(t: &[u8], a: u32, b: u32, c: u32, d: u32) -> u32
@@ -29,7 +27,7 @@ pub fn mixed(t: &[u8], a: u32, b: u32, c: u32, d: u32) -> u32
 }
 
 // SubBytes, ShiftRows, MixColumns.
-pub fn mix(t: &[u8], k: Words) -> Words
+pub fn sub_shift_mix(t: &[u8], k: Words) -> Words
     requires { ⌜ Entries entry (now t) ⌝ }
     ensures { λ r. ⌜ blockOf r ≡ mixColumns (shiftRows (subBytes (blockOf k))) ⌝ }
 {
@@ -44,7 +42,7 @@ pub fn mix(t: &[u8], k: Words) -> Words
 // SubBytes of a column, whose rows come from four words: the second byte of an entry is the S-box's.
 fn shifted(t: &[u8], a: u32, b: u32, c: u32, d: u32) -> u32
     requires { ⌜ Entries entry (now t) ⌝ }
-    ensures { λ r. ⌜ bytesOf r ≡ sBox (a % 256) ∷ sBox (b / 256 % 256) ∷ sBox (c / 65536 % 256) ∷ sBox (d / 16777216 % 256) ∷ [] ⌝ }
+    ensures { λ r. ⌜ bytesOf r ≡ subBoxed (a % 256) (b / 256 % 256) (c / 65536 % 256) (d / 16777216 % 256) ⌝ }
 {
     let p = t[8 * first(a) as usize + 1];
     let q = t[8 * second(b) as usize + 1];
@@ -54,7 +52,7 @@ fn shifted(t: &[u8], a: u32, b: u32, c: u32, d: u32) -> u32
 }
 
 // SubBytes, ShiftRows.
-pub fn shift(t: &[u8], k: Words) -> Words
+pub fn sub_shift(t: &[u8], k: Words) -> Words
     requires { ⌜ Entries entry (now t) ⌝ }
     ensures { λ r. ⌜ blockOf r ≡ shiftRows (subBytes (blockOf k)) ⌝ }
 {

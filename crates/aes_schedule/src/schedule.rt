@@ -4,10 +4,9 @@ use crate::words::split;
 use crate::words::word_at;
 ghost use mathlib.Core.Path.{_≡_};
 ghost use mathlib.Core.Bool.{true};
-ghost use mathlib.Core.List.{_++_};
 ghost use Prim.Native.Nat.{_+_, _-_, _*_, _/_, _≤_, _<_};
-ghost use lib.ListN.{length, drop};
-ghost use Rattle.octets.specs.Strings.{table};
+ghost use lib.ListN.{length};
+ghost use Rattle.octets.specs.Strings.{table, over};
 ghost use Rattle.field.specs.SBox.{sBox};
 ghost use Rattle.fips197.specs.Schedule.{isKey, subWord, rotWord, power, temp, nextWord, keyExpansion};
 ghost use Rattle.aes_schedule.specs.Place.{Place};
@@ -81,7 +80,7 @@ pub fn expand(key: &[u8], s: &[u8], w: &mut [u8])
     requires { ⌜ isKey (now key) ≡ true ⌝ }
     requires { ⌜ now s ≡ table sBox 256 ⌝ }
     requires { ⌜ 240 ≤ length (now w) ⌝ }
-    ensures { λ _. ⌜ now (w .exit) ≡ keyExpansion (now (key .entry)) ++ drop (length (keyExpansion (now (key .entry)))) (now (w .entry)) ⌝ }
+    ensures { λ _. ⌜ now (w .exit) ≡ over (keyExpansion (now (key .entry))) (now (w .entry)) ⌝ }
 {
     let nk = key.len() / 4;
     let r = 255 / nk + 1;

@@ -2,8 +2,9 @@
 -- Assumes nothing.
 use mathlib.Core.List.{List, [], _∷_, _++_}
 use Prim.Native.Nat.{ℕ, zero, suc}
+use Rattle.octets.specs.Strings.{table}
 use Rattle.field.specs.Field.{mul}
-use Rattle.field.specs.SBox.{sBox}
+use Rattle.field.specs.SBox.{sBox, invSBox}
 
 -- a byte times each of p, q, u, v, and that once more: from byte 3, 2 and 1 on, the next four are the first four turned by one, two and
 -- three rows
@@ -23,5 +24,10 @@ unfoldable pub entries : (ℕ → List ℕ) → ℕ → ℕ → List ℕ
 entries e v zero = []
 entries e v (suc n) = e v ++ entries e (suc v) n
 
-abbrev pub tables : List ℕ
-tables = entries entry 0 256 ++ entries inverseEntry 0 256
+-- the round table
+abbrev pub forward : List ℕ
+forward = entries entry 0 256
+
+-- the table of InvMixColumns, and the inverse S-box
+abbrev pub inverses : List ℕ
+inverses = entries inverseEntry 0 256 ++ table invSBox 256

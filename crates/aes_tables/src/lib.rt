@@ -1,4 +1,6 @@
-// The tables that the rounds of AES read, as one constant. It is large, so it has a crate to itself.
+// The tables that the rounds of AES read, as two constants. They are large, so they have a crate to
+// themselves.
 mod round;
 
-pub use round::round_tables;
+pub use round::forward;
+pub use round::inverses;

@@ -8,12 +8,9 @@
 // against an AES of its own kind, with the S-box computed from the field, and that one against
 // openssl under the same keys.
 use libc::STDOUT_FILENO;
-ghost use mathlib.Core.Path.{_≡_};
-ghost use mathlib.Core.Bool.{true};
 ghost use Prim.Native.Nat.{_≤_, _<_};
-ghost use Rattle.fips197.specs.Schedule.{isKey};
 ghost use Rattle.fips197.specs.Cipher.{keyRounds};
-ghost use Rattle.aes.specs.Context.{contextOf};
+ghost use Rattle.aes.specs.Context.{Encrypts};
 
 fn print_block(s: [u8; 16]) {
     show::bytes(&s);
@@ -36,8 +33,7 @@ fn print_heading(name: &[u8], s: &[u8]) {
 
 // A line of appendix A: a round key's number and its words.
 fn print_round_key(key: &[u8], ctx: &aes::Context, n: usize)
-    requires { ⌜ isKey (now key) ≡ true ⌝ }
-    requires { ⌜ now ctx ≡ contextOf (now key) ⌝ }
+    requires { ⌜ Encrypts (now key) (now ctx) ⌝ }
     requires { ⌜ n ≤ keyRounds (now key) ⌝ }
 {
     let k = aes::round_key(key, ctx, n);
@@ -52,8 +48,9 @@ fn print_round_key(key: &[u8], ctx: &aes::Context, n: usize)
 // Appendix A: every round key.
 fn expansion(name: &[u8], key: &[u8]) {
     print_heading(name, key);
-    let mut ctx = aes::blank();
-    if aes::set_key(key, &mut ctx) {
+    if aes::is_key(key) {
+        let mut ctx = aes::blank();
+        aes::fill(key, &mut ctx);
         let mut n = 0;
         while n < key.len() / 4 + 7 {
             print_round_key(key, &ctx, n);
@@ -73,8 +70,9 @@ fn print_state(n: usize, s: [u8; 16]) {
 // Appendix B: the State after each round, the last of which is the ciphertext.
 fn states(key: &[u8], block: [u8; 16]) {
     print_heading(b"B", &block);
-    let mut ctx = aes::blank();
-    if aes::set_key(key, &mut ctx) {
+    if aes::is_key(key) {
+        let mut ctx = aes::blank();
+        aes::fill(key, &mut ctx);
         let mut n = 0;
         while n < key.len() / 4 + 6 {
             print_state(n, aes::state_after(key, &ctx, n, block));

@@ -1,4 +1,3 @@
-pub mod CompareLaws
 pub mod BlockLaws
 pub mod AttemptLaws
 pub mod OpenForms

@@ -4,38 +4,34 @@ use cba_steps::doubled;
 use cba_steps::split;
 use cba_steps::whole;
 ghost use mathlib.Core.Path.{_≡_};
-ghost use mathlib.Core.Bool.{true};
 ghost use mathlib.Core.List.{_++_};
 ghost use Prim.Native.Nat.{_*_, _≤_};
 ghost use lib.ListN.{length, drop};
 ghost use Rattle.octets.specs.Xor.{xors};
-ghost use Rattle.fips197.specs.Schedule.{isKey};
 ghost use Rattle.fips197.specs.Cipher.{cipher, invCipher};
-ghost use Rattle.aes.specs.Context.{contextOf};
+ghost use Rattle.aes.specs.Context.{Decrypts};
 ghost use Rattle.cba_mode.specs.Offsets.{offset};
 ghost use Rattle.cba_mode.specs.Seal.{checksum};
 ghost use Rattle.cba_mode.specs.Open.{plainBlocks};
 
 // M = D(C ⊕ Δ) ⊕ Δ.
-fn opened_block(key: &[u8], ctx: &aes::Context, c: [u8; 16], offset: [u8; 16]) -> [u8; 16]
-    requires { ⌜ isKey (now key) ≡ true ⌝ }
-    requires { ⌜ now ctx ≡ contextOf (now key) ⌝ }
+fn opened_block(key: &[u8], inv: &aes::Inverse, c: [u8; 16], offset: [u8; 16]) -> [u8; 16]
+    requires { ⌜ Decrypts (now key) (now inv) ⌝ }
     ensures { λ r. ⌜ r ≡ xors (invCipher (now (key .entry)) (xors c offset)) offset ⌝ }
 {
-    octets::xor_block(aes::decrypt(key, ctx, octets::xor_block(c, offset)), offset)
+    octets::xor_block(aes::decrypt(key, inv, octets::xor_block(c, offset)), offset)
 }
 
 // The first k blocks of a ciphertext opened over the first bytes of out, from the offset before them.
 pub fn plain_blocks(
     key: &[u8],
-    ctx: &aes::Context,
+    inv: &aes::Inverse,
     text: &[u8],
     k: usize,
     start: [u8; 16],
     out: &mut [u8],
 ) -> Running
-    requires { ⌜ isKey (now key) ≡ true ⌝ }
-    requires { ⌜ now ctx ≡ contextOf (now key) ⌝ }
+    requires { ⌜ Decrypts (now key) (now inv) ⌝ }
     requires { ⌜ (16 * k ≤ length (now text)) × (16 * k ≤ length (now out)) ⌝ }
     ensures { λ r. ⌜ (r .offset ≡ offset start k) × (r .sum ≡ checksum (plainBlocks (cipher (now (key .entry))) (invCipher (now (key .entry))) start (now (text .entry)) k) k) × (now (out .exit) ≡ plainBlocks (cipher (now (key .entry))) (invCipher (now (key .entry))) start (now (text .entry)) k ++ drop (16 * k) (now (out .entry))) ⌝ }
 {
@@ -46,7 +42,7 @@ pub fn plain_blocks(
         let c = octets::first_block(&text[16 * i..]);
         let next = doubled(h);
         let offset = whole(next);
-        let m = opened_block(key, ctx, c, offset);
+        let m = opened_block(key, inv, c, offset);
         octets::put(&mut out[16 * i..], &m);
         let more = octets::xor_block(sum, m);
         sum = more;

@@ -1,6 +1,4 @@
 // The three forms of opening, and the choice between them.
-use crate::compare::clear;
-use crate::compare::same;
 use crate::joined::joined_tail;
 use crate::separate::separate_tail;
 use cba_sealing::First;
@@ -14,9 +12,8 @@ ghost use mathlib.Core.Bool.{true};
 ghost use mathlib.Core.List.{_++_};
 ghost use Prim.Native.Nat.{_+_, _-_, _/_, _≤_, _<_};
 ghost use lib.ListN.{length, take, drop};
-ghost use Rattle.fips197.specs.Schedule.{isKey};
 ghost use Rattle.fips197.specs.Cipher.{cipher, invCipher};
-ghost use Rattle.aes.specs.Context.{contextOf};
+ghost use Rattle.aes.specs.Context.{Encrypts, Decrypts};
 ghost use Rattle.cba_mode.specs.Sets.{Fits, ell, tagBytes};
 ghost use Rattle.cba_mode.specs.Forms.{fullBlocks, lastLength, openForm};
 ghost use Rattle.cba_mode.specs.Forms.Form.{short, joined, separate};
@@ -35,8 +32,7 @@ fn open_first(
     first: &[u8],
     out: &mut [u8],
 ) -> First
-    requires { ⌜ isKey (now key) ≡ true ⌝ }
-    requires { ⌜ now ctx ≡ contextOf (now key) ⌝ }
+    requires { ⌜ Encrypts (now key) (now ctx) ⌝ }
     requires { ⌜ Fits tag capacity ⌝ }
     requires { ⌜ (length (now nonce) ≡ 12) × (length (now first) ≤ tagBytes tag) × (length (now first) ≤ length (now out)) ⌝ }
     ensures { λ h. ⌜ (h .offset ≡ Δ₀ (cipher (now (key .entry))) tag capacity (now (nonce .entry))) × (h .tag ≡ leading 16 (T tag (take (tagBytes tag) hash) (now (first .entry)))) × (length (T tag (take (tagBytes tag) hash) (now (first .entry))) ≡ tagBytes tag) × (now (out .exit) ≡ masked (cipher (now (key .entry))) tag capacity (now (nonce .entry)) (now (first .entry)) ++ drop (length (now (first .entry))) (now (out .entry))) ⌝ }
@@ -56,8 +52,7 @@ fn open_short(
     text: &[u8],
     out: &mut [u8],
 ) -> bool
-    requires { ⌜ isKey (now key) ≡ true ⌝ }
-    requires { ⌜ now ctx ≡ contextOf (now key) ⌝ }
+    requires { ⌜ Encrypts (now key) (now ctx) ⌝ }
     requires { ⌜ Fits tag capacity ⌝ }
     requires { ⌜ (length (now nonce) ≡ 12) × (tagBytes tag ≤ length (now text)) × (length (now text) ≤ ell tag capacity / 8 + tagBytes tag) × (length (now text) ≤ length (now out) + tagBytes tag) ⌝ }
     ensures { λ r. ⌜ Tried (attempt (cipher (now (key .entry))) (invCipher (now (key .entry))) tag capacity short (now (nonce .entry)) (take (tagBytes tag) hash) (now (text .entry))) (length (now (text .entry)) - tagBytes tag) r (now (out .entry)) (now (out .exit)) ⌝ }
@@ -67,13 +62,14 @@ fn open_short(
     let data = b.data;
     let offset = b.offset;
     let e = short_tag(key, ctx, data, offset, &text[..n]);
-    same(&text[n..], &e[..tag_bytes(tag)])
+    octets::same(&text[n..], &e[..tag_bytes(tag)])
 }
 
 // The last block and the tag in one block.
 fn open_joined(
     key: &[u8],
     ctx: &aes::Context,
+    inv: &aes::Inverse,
     tag: u8,
     capacity: u8,
     nonce: &[u8],
@@ -81,8 +77,8 @@ fn open_joined(
     text: &[u8],
     out: &mut [u8],
 ) -> bool
-    requires { ⌜ isKey (now key) ≡ true ⌝ }
-    requires { ⌜ now ctx ≡ contextOf (now key) ⌝ }
+    requires { ⌜ Encrypts (now key) (now ctx) ⌝ }
+    requires { ⌜ Decrypts (now key) (now inv) ⌝ }
     requires { ⌜ Fits tag capacity ⌝ }
     requires { ⌜ (length (now nonce) ≡ 12) × (ell tag capacity / 8 + tagBytes tag < length (now text)) × (1 ≤ fullBlocks (ell tag capacity / 8) (length (now text))) × (tagBytes tag < lastLength (ell tag capacity / 8) (length (now text))) × (length (now text) ≤ length (now out) + tagBytes tag) ⌝ }
     ensures { λ r. ⌜ Tried (attempt (cipher (now (key .entry))) (invCipher (now (key .entry))) tag capacity joined (now (nonce .entry)) (take (tagBytes tag) hash) (now (text .entry))) (length (now (text .entry)) - tagBytes tag) r (now (out .entry)) (now (out .exit)) ⌝ }
@@ -92,13 +88,14 @@ fn open_joined(
     let whole = h.tag;
     let offset = h.offset;
     let t = &whole[16 - tag_bytes(tag)..];
-    joined_tail(key, ctx, tag, t, offset, &text[l..], &mut out[l..])
+    joined_tail(key, ctx, inv, tag, t, offset, &text[l..], &mut out[l..])
 }
 
 // The tag in a block of its own: the last block has at most t bytes, or is the only one.
 fn open_separate(
     key: &[u8],
     ctx: &aes::Context,
+    inv: &aes::Inverse,
     tag: u8,
     capacity: u8,
     nonce: &[u8],
@@ -106,8 +103,8 @@ fn open_separate(
     text: &[u8],
     out: &mut [u8],
 ) -> bool
-    requires { ⌜ isKey (now key) ≡ true ⌝ }
-    requires { ⌜ now ctx ≡ contextOf (now key) ⌝ }
+    requires { ⌜ Encrypts (now key) (now ctx) ⌝ }
+    requires { ⌜ Decrypts (now key) (now inv) ⌝ }
     requires { ⌜ Fits tag capacity ⌝ }
     requires { ⌜ (length (now nonce) ≡ 12) × (ell tag capacity / 8 + tagBytes tag < length (now text)) × ((length (now text) - ell tag capacity / 8 - tagBytes tag - 1) / 16 ≡ fullBlocks (ell tag capacity / 8) (length (now text)) - 1) × (length (now text) ≤ length (now out) + tagBytes tag) ⌝ }
     ensures { λ r. ⌜ Tried (attempt (cipher (now (key .entry))) (invCipher (now (key .entry))) tag capacity separate (now (nonce .entry)) (take (tagBytes tag) hash) (now (text .entry))) (length (now (text .entry)) - tagBytes tag) r (now (out .entry)) (now (out .exit)) ⌝ }
@@ -117,13 +114,14 @@ fn open_separate(
     let whole = h.tag;
     let offset = h.offset;
     let t = &whole[16 - tag_bytes(tag)..];
-    separate_tail(key, ctx, tag, t, offset, &text[l..], &mut out[l..])
+    separate_tail(key, ctx, inv, tag, t, offset, &text[l..], &mut out[l..])
 }
 
 // The attempt in the form that the length takes.
 fn open_message(
     key: &[u8],
     ctx: &aes::Context,
+    inv: &aes::Inverse,
     tag: u8,
     capacity: u8,
     nonce: &[u8],
@@ -131,8 +129,8 @@ fn open_message(
     text: &[u8],
     out: &mut [u8],
 ) -> bool
-    requires { ⌜ isKey (now key) ≡ true ⌝ }
-    requires { ⌜ now ctx ≡ contextOf (now key) ⌝ }
+    requires { ⌜ Encrypts (now key) (now ctx) ⌝ }
+    requires { ⌜ Decrypts (now key) (now inv) ⌝ }
     requires { ⌜ Fits tag capacity ⌝ }
     requires { ⌜ (length (now nonce) ≡ 12) × (tagBytes tag ≤ length (now text)) × (length (now text) ≤ length (now out) + tagBytes tag) ⌝ }
     ensures { λ r. ⌜ Tried (attempt (cipher (now (key .entry))) (invCipher (now (key .entry))) tag capacity (openForm (ell tag capacity / 8) (tagBytes tag) (length (now (text .entry)))) (now (nonce .entry)) (take (tagBytes tag) hash) (now (text .entry))) (length (now (text .entry)) - tagBytes tag) r (now (out .entry)) (now (out .exit)) ⌝ }
@@ -145,18 +143,19 @@ fn open_message(
     }
     let k = (n - l - 1) / 16;
     if k < 1 {
-        return open_separate(key, ctx, tag, capacity, nonce, hash, text, out);
+        return open_separate(key, ctx, inv, tag, capacity, nonce, hash, text, out);
     }
     if n - l - 16 * k <= t {
-        return open_separate(key, ctx, tag, capacity, nonce, hash, text, out);
+        return open_separate(key, ctx, inv, tag, capacity, nonce, hash, text, out);
     }
-    open_joined(key, ctx, tag, capacity, nonce, hash, text, out)
+    open_joined(key, ctx, inv, tag, capacity, nonce, hash, text, out)
 }
 
 // DEC, from the sum whose first t bytes are T_A: the message over the first bytes of out, or zeros where the tags differ.
 pub fn open_text(
     key: &[u8],
     ctx: &aes::Context,
+    inv: &aes::Inverse,
     tag: u8,
     capacity: u8,
     nonce: &[u8],
@@ -164,15 +163,15 @@ pub fn open_text(
     text: &[u8],
     out: &mut [u8],
 ) -> bool
-    requires { ⌜ isKey (now key) ≡ true ⌝ }
-    requires { ⌜ now ctx ≡ contextOf (now key) ⌝ }
+    requires { ⌜ Encrypts (now key) (now ctx) ⌝ }
+    requires { ⌜ Decrypts (now key) (now inv) ⌝ }
     requires { ⌜ Fits tag capacity ⌝ }
     requires { ⌜ (length (now nonce) ≡ 12) × (tagBytes tag ≤ length (now text)) × (length (now text) ≤ length (now out) + tagBytes tag) ⌝ }
     ensures { λ r. ⌜ Answered (openWith (cipher (now (key .entry))) (invCipher (now (key .entry))) tag capacity (now (nonce .entry)) (take (tagBytes tag) hash) (now (text .entry))) (length (now (text .entry)) - tagBytes tag) r (now (out .entry)) (now (out .exit)) ⌝ }
 {
-    if open_message(key, ctx, tag, capacity, nonce, hash, text, out) {
+    if open_message(key, ctx, inv, tag, capacity, nonce, hash, text, out) {
         return true;
     }
-    clear(out, text.len() - tag_bytes(tag));
+    octets::clear(out, text.len() - tag_bytes(tag));
     false
 }

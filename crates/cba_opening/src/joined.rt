@@ -1,20 +1,17 @@
 // The joined form after C_0: the last block and the tag come out of one block.
 use crate::blocks::plain_blocks;
-use crate::compare::same;
 use cba_sealing::Running;
 use cba_sealing::mask;
 use cba_steps::pad;
 use cba_steps::step;
 ghost use mathlib.Core.Path.{_≡_};
-ghost use mathlib.Core.Bool.{true};
 ghost use mathlib.Core.List.{_++_};
 ghost use Prim.Native.Nat.{_+_, _-_, _*_, _/_, _≤_, _<_};
 ghost use lib.ListN.{length, take, drop};
 ghost use Rattle.octets.specs.Strings.{eqs};
 ghost use Rattle.octets.specs.Xor.{xors};
-ghost use Rattle.fips197.specs.Schedule.{isKey};
 ghost use Rattle.fips197.specs.Cipher.{cipher, invCipher};
-ghost use Rattle.aes.specs.Context.{contextOf};
+ghost use Rattle.aes.specs.Context.{Encrypts, Decrypts};
 ghost use Rattle.cba_mode.specs.Sets.{tagBytes};
 ghost use Rattle.cba_mode.specs.Offsets.{lastBytes, butLast};
 ghost use Rattle.cba_mode.specs.Open.{Tried, fromBlocks, joinedPlain, joinedRest, joinedAttempt};
@@ -28,8 +25,7 @@ fn joined_plain(
     c: &[u8],
     last: [u8; 16],
 ) -> [u8; 16]
-    requires { ⌜ isKey (now key) ≡ true ⌝ }
-    requires { ⌜ now ctx ≡ contextOf (now key) ⌝ }
+    requires { ⌜ Encrypts (now key) (now ctx) ⌝ }
     ensures { λ r. ⌜ r ≡ joinedPlain (cipher (now (key .entry))) (invCipher (now (key .entry))) offset sum (now (c .entry)) last ⌝ }
 {
     let x = octets::xor_block(pad(c), step(6, 6, offset));
@@ -45,7 +41,7 @@ fn joined_tag(e: [u8; 16], c: &[u8], tag: &[u8]) -> bool
     let mut t = [0u8; 16];
     mask(e, n, &c[n..], &mut t);
     let found = &t[..tag.len()];
-    same(found, tag)
+    octets::same(found, tag)
 }
 
 // M_m over the first bytes of out, from C_{m-1} and M_{m-1}, and whether T′ is the tag.
@@ -58,8 +54,7 @@ fn joined_rest(
     c: &[u8],
     out: &mut [u8],
 ) -> bool
-    requires { ⌜ isKey (now key) ≡ true ⌝ }
-    requires { ⌜ now ctx ≡ contextOf (now key) ⌝ }
+    requires { ⌜ Encrypts (now key) (now ctx) ⌝ }
     requires { ⌜ (length (now tag) ≤ length (now c)) × (length (now c) ≤ 16) × (length (now c) ≤ length (now out) + length (now tag)) ⌝ }
     ensures { λ r. ⌜ (r ≡ eqs (lastBytes (length (now (tag .entry))) (joinedRest (cipher (now (key .entry))) (invCipher (now (key .entry))) offset (now (c .entry)) m)) (now (tag .entry))) × (now (out .exit) ≡ butLast (length (now (tag .entry))) (joinedRest (cipher (now (key .entry))) (invCipher (now (key .entry))) offset (now (c .entry)) m) ++ drop (length (now (c .entry)) - length (now (tag .entry))) (now (out .entry))) ⌝ }
 {
@@ -78,8 +73,7 @@ fn joined_end(
     rest: &[u8],
     out: &mut [u8],
 ) -> bool
-    requires { ⌜ isKey (now key) ≡ true ⌝ }
-    requires { ⌜ now ctx ≡ contextOf (now key) ⌝ }
+    requires { ⌜ Encrypts (now key) (now ctx) ⌝ }
     requires { ⌜ (length (now tag) ≡ tagBytes tau) × (16 + tagBytes tau ≤ length (now rest)) × (length (now rest) ≤ 32) × (length (now rest) ≤ length (now out) + tagBytes tau) ⌝ }
     ensures { λ r. ⌜ Tried (joinedAttempt (cipher (now (key .entry))) (invCipher (now (key .entry))) tau (now (tag .entry)) (s .offset) (s .sum) (now (rest .entry))) (length (now (rest .entry)) - tagBytes tau) r (now (out .entry)) (now (out .exit)) ⌝ }
 {
@@ -96,18 +90,19 @@ fn joined_end(
 pub fn joined_tail(
     key: &[u8],
     ctx: &aes::Context,
+    inv: &aes::Inverse,
     tau: u8,
     tag: &[u8],
     offset: [u8; 16],
     text: &[u8],
     out: &mut [u8],
 ) -> bool
-    requires { ⌜ isKey (now key) ≡ true ⌝ }
-    requires { ⌜ now ctx ≡ contextOf (now key) ⌝ }
+    requires { ⌜ Encrypts (now key) (now ctx) ⌝ }
+    requires { ⌜ Decrypts (now key) (now inv) ⌝ }
     requires { ⌜ (length (now tag) ≡ tagBytes tau) × (16 < length (now text)) × (tagBytes tau < length (now text) - 16 * ((length (now text) - 1) / 16)) × (length (now text) ≤ length (now out) + tagBytes tau) ⌝ }
     ensures { λ r. ⌜ Tried (fromBlocks (cipher (now (key .entry))) (invCipher (now (key .entry))) (joinedAttempt (cipher (now (key .entry))) (invCipher (now (key .entry))) tau (now (tag .entry))) offset (now (text .entry)) ((length (now (text .entry)) - 1) / 16 - 1)) (length (now (text .entry)) - tagBytes tau) r (now (out .entry)) (now (out .exit)) ⌝ }
 {
     let k = (text.len() - 1) / 16 - 1;
-    let s = plain_blocks(key, ctx, text, k, offset, out);
+    let s = plain_blocks(key, inv, text, k, offset, out);
     joined_end(key, ctx, tau, tag, s, &text[16 * k..], &mut out[16 * k..])
 }

@@ -1,6 +1,5 @@
 // Opening: DEC of the paper, for a key that is set.
 mod blocks;
-mod compare;
 mod forms;
 mod joined;
 mod separate;

@@ -10,7 +10,7 @@ use borrow.Author.Tests.{eq-eqb, eqb-true}
 use lib.Dec.{T, eqb}
 use lib.ListN.{length, take, drop}
 use lib.Seq.{take-at, drop-at}
-use Rattle.octets.specs.Strings.{Bytes, Octets}
+use Rattle.octets.specs.Strings.{Bytes, Octets, over}
 use Rattle.octets.specs.Count.{count}
 use Rattle.octets.proofs.Count.{count-scheme}
 use Rattle.fips197.specs.Cipher.{cipher, invCipher}
@@ -22,7 +22,7 @@ use Rattle.cba_mode.specs.Open.Opened.{opened, refused}
 use Rattle.cba_mode.specs.RoundTrip.{BlockCipher, RoundTrip}
 use Rattle.cba_mode.proofs.RoundTrip.{data-trip, refused-opens}
 use Rattle.cba_rules.specs.Checks.{setTag}
-use Rattle.cba_rules.specs.Refusals.{sealing, opening, sealAnswer, openAnswer, over, sealLeaves, sealOutput, openLeaves, openOutput, OpenCall}
+use Rattle.cba_rules.specs.Refusals.{sealing, opening, sealAnswer, openAnswer, sealLeaves, sealOutput, openLeaves, openOutput, OpenCall}
 use Rattle.cba_rules.specs.Demands.{AllBytes, Demand1, Demand2, Given, Message, Decided, Demand3, Speaks}
 use Rattle.cba_rules.proofs.SetLaws.{set-fits, set-key}
 use Rattle.cba_rules.proofs.RefusalLaws.{Common, seal-refusals, open-refusals, seal-accepts, seal-accepted, open-decides, open-accepted, open-false}

@@ -2,10 +2,11 @@
 -- Assumes nothing.
 use mathlib.Core.Path.{_≡_}
 use mathlib.Core.Bool.{cond}
-use mathlib.Core.List.{List, _++_}
+use mathlib.Core.List.{List}
 use Prim.Native.Nat.{ℕ, _-_}
 use lib.Dec.{eqb}
-use lib.ListN.{length, drop, replicate}
+use lib.ListN.{length, replicate}
+use Rattle.octets.specs.Strings.{over}
 use Rattle.answers.specs.Rows.{answer}
 use Rattle.fips197.specs.Cipher.{cipher, invCipher}
 use Rattle.cba_mode.specs.Sets.{tagBits, capacity}
@@ -26,10 +27,6 @@ sealAnswer set key N A M out = answer (sealRows set (length key) (length N) (len
 unfoldable pub openAnswer : ℕ → List ℕ → List ℕ → List ℕ → List ℕ → List ℕ → ℕ
 openAnswer set key N A C out =
     answer (openRows set (length key) (length N) (length A) (length C) (length out) (isFalse (opening set key N A C)))
-
--- out with s over its first bytes
-abbrev pub over : List ℕ → List ℕ → List ℕ
-over s out = s ++ drop (length s) out
 
 -- sealing's output, after an answer: accepted, the sealing and the bytes after it as before; refused, as before
 unfoldable pub sealLeaves : ℕ → List ℕ → List ℕ → List ℕ

@@ -4,14 +4,12 @@ use crate::pieces::nonce_block;
 use crate::pieces::right_aligned;
 use cba_steps::start;
 ghost use mathlib.Core.Path.{_≡_};
-ghost use mathlib.Core.Bool.{true};
 ghost use mathlib.Core.List.{_++_};
 ghost use Prim.Native.Nat.{_/_, _≤_};
 ghost use lib.ListN.{length, take, drop};
 ghost use Rattle.octets.specs.Xor.{xors};
-ghost use Rattle.fips197.specs.Schedule.{isKey};
 ghost use Rattle.fips197.specs.Cipher.{cipher};
-ghost use Rattle.aes.specs.Context.{contextOf};
+ghost use Rattle.aes.specs.Context.{Encrypts};
 ghost use Rattle.cba_mode.specs.Sets.{Fits, ell, tagBytes};
 ghost use Rattle.cba_mode.specs.Offsets.{leading};
 ghost use Rattle.cba_mode.specs.Seal.{R, Δ₀, masked, T};
@@ -57,8 +55,7 @@ fn begin(
     nonce: &[u8],
     hash: [u8; 16],
 ) -> Start
-    requires { ⌜ isKey (now key) ≡ true ⌝ }
-    requires { ⌜ now ctx ≡ contextOf (now key) ⌝ }
+    requires { ⌜ Encrypts (now key) (now ctx) ⌝ }
     requires { ⌜ Fits tag capacity ⌝ }
     requires { ⌜ length (now nonce) ≡ 12 ⌝ }
     ensures { λ b. ⌜ (b .r ≡ R (cipher (now (key .entry))) tag capacity (now (nonce .entry))) × (b .offset ≡ Δ₀ (cipher (now (key .entry))) tag capacity (now (nonce .entry))) × (b .data ≡ leading 16 (take (tagBytes tag) hash)) × (length (take (tagBytes tag) hash) ≡ tagBytes tag) ⌝ }
@@ -90,8 +87,7 @@ pub fn cover(
     first: &[u8],
     out: &mut [u8],
 ) -> Begun
-    requires { ⌜ isKey (now key) ≡ true ⌝ }
-    requires { ⌜ now ctx ≡ contextOf (now key) ⌝ }
+    requires { ⌜ Encrypts (now key) (now ctx) ⌝ }
     requires { ⌜ Fits tag capacity ⌝ }
     requires { ⌜ (length (now nonce) ≡ 12) × (length (now first) ≤ 16) × (length (now first) ≤ length (now out)) ⌝ }
     ensures { λ b. ⌜ (b .offset ≡ Δ₀ (cipher (now (key .entry))) tag capacity (now (nonce .entry))) × (b .data ≡ leading 16 (take (tagBytes tag) hash)) × (length (take (tagBytes tag) hash) ≡ tagBytes tag) × (now (out .exit) ≡ masked (cipher (now (key .entry))) tag capacity (now (nonce .entry)) (now (first .entry)) ++ drop (length (now (first .entry))) (now (out .entry))) ⌝ }
@@ -138,8 +134,7 @@ pub fn seal_first(
     first: &[u8],
     out: &mut [u8],
 ) -> First
-    requires { ⌜ isKey (now key) ≡ true ⌝ }
-    requires { ⌜ now ctx ≡ contextOf (now key) ⌝ }
+    requires { ⌜ Encrypts (now key) (now ctx) ⌝ }
     requires { ⌜ Fits tag capacity ⌝ }
     requires { ⌜ (length (now nonce) ≡ 12) × (length (now first) ≤ tagBytes tag) × (length (now first) ≤ length (now out)) ⌝ }
     ensures { λ h. ⌜ (h .offset ≡ Δ₀ (cipher (now (key .entry))) tag capacity (now (nonce .entry))) × (h .tag ≡ leading 16 (T tag (take (tagBytes tag) hash) (masked (cipher (now (key .entry))) tag capacity (now (nonce .entry)) (now (first .entry))))) × (length (T tag (take (tagBytes tag) hash) (masked (cipher (now (key .entry))) tag capacity (now (nonce .entry)) (now (first .entry)))) ≡ tagBytes tag) × (now (out .exit) ≡ masked (cipher (now (key .entry))) tag capacity (now (nonce .entry)) (now (first .entry)) ++ drop (length (now (first .entry))) (now (out .entry))) ⌝ }

@@ -8,14 +8,12 @@ use crate::separate::separate_tail;
 use cba_steps::pad;
 use cba_steps::step;
 ghost use mathlib.Core.Path.{_≡_};
-ghost use mathlib.Core.Bool.{true};
 ghost use mathlib.Core.List.{_++_};
 ghost use Prim.Native.Nat.{_+_, _/_, _≤_, _<_};
 ghost use lib.ListN.{length, take, drop};
 ghost use Rattle.octets.specs.Xor.{xors};
-ghost use Rattle.fips197.specs.Schedule.{isKey};
 ghost use Rattle.fips197.specs.Cipher.{cipher};
-ghost use Rattle.aes.specs.Context.{contextOf};
+ghost use Rattle.aes.specs.Context.{Encrypts};
 ghost use Rattle.cba_mode.specs.Sets.{Fits, ell, tagBytes};
 ghost use Rattle.cba_mode.specs.Forms.{fullBlocks, lastLength};
 ghost use Rattle.cba_mode.specs.Forms.Form.{short, joined, separate};
@@ -30,8 +28,7 @@ pub fn short_tag(
     offset: [u8; 16],
     c: &[u8],
 ) -> [u8; 16]
-    requires { ⌜ isKey (now key) ≡ true ⌝ }
-    requires { ⌜ now ctx ≡ contextOf (now key) ⌝ }
+    requires { ⌜ Encrypts (now key) (now ctx) ⌝ }
     ensures { λ r. ⌜ r ≡ cipher (now (key .entry)) (xors (xors hash (pad (now (c .entry)))) (F 3 3 offset)) ⌝ }
 {
     let x = octets::xor_block(hash, pad(c));
@@ -49,8 +46,7 @@ fn seal_short(
     text: &[u8],
     out: &mut [u8],
 )
-    requires { ⌜ isKey (now key) ≡ true ⌝ }
-    requires { ⌜ now ctx ≡ contextOf (now key) ⌝ }
+    requires { ⌜ Encrypts (now key) (now ctx) ⌝ }
     requires { ⌜ Fits tag capacity ⌝ }
     requires { ⌜ (length (now nonce) ≡ 12) × (length (now text) ≤ ell tag capacity / 8) × (length (now text) + tagBytes tag ≤ length (now out)) ⌝ }
     ensures { λ _. ⌜ now (out .exit) ≡ sealAs (cipher (now (key .entry))) tag capacity short (now (nonce .entry)) (take (tagBytes tag) hash) (now (text .entry)) ++ drop (length (now (text .entry)) + tagBytes tag) (now (out .entry)) ⌝ }
@@ -74,8 +70,7 @@ fn seal_joined(
     text: &[u8],
     out: &mut [u8],
 )
-    requires { ⌜ isKey (now key) ≡ true ⌝ }
-    requires { ⌜ now ctx ≡ contextOf (now key) ⌝ }
+    requires { ⌜ Encrypts (now key) (now ctx) ⌝ }
     requires { ⌜ Fits tag capacity ⌝ }
     requires { ⌜ (length (now nonce) ≡ 12) × (ell tag capacity / 8 < length (now text)) × (1 ≤ fullBlocks (ell tag capacity / 8) (length (now text))) × (lastLength (ell tag capacity / 8) (length (now text)) + tagBytes tag ≤ 16) × (length (now text) + tagBytes tag ≤ length (now out)) ⌝ }
     ensures { λ _. ⌜ now (out .exit) ≡ sealAs (cipher (now (key .entry))) tag capacity joined (now (nonce .entry)) (take (tagBytes tag) hash) (now (text .entry)) ++ drop (length (now (text .entry)) + tagBytes tag) (now (out .entry)) ⌝ }
@@ -99,8 +94,7 @@ fn seal_separate(
     text: &[u8],
     out: &mut [u8],
 )
-    requires { ⌜ isKey (now key) ≡ true ⌝ }
-    requires { ⌜ now ctx ≡ contextOf (now key) ⌝ }
+    requires { ⌜ Encrypts (now key) (now ctx) ⌝ }
     requires { ⌜ Fits tag capacity ⌝ }
     requires { ⌜ (length (now nonce) ≡ 12) × (ell tag capacity / 8 < length (now text)) × (length (now text) + tagBytes tag ≤ length (now out)) ⌝ }
     ensures { λ _. ⌜ now (out .exit) ≡ sealAs (cipher (now (key .entry))) tag capacity separate (now (nonce .entry)) (take (tagBytes tag) hash) (now (text .entry)) ++ drop (length (now (text .entry)) + tagBytes tag) (now (out .entry)) ⌝ }
@@ -124,8 +118,7 @@ pub fn seal_message(
     text: &[u8],
     out: &mut [u8],
 )
-    requires { ⌜ isKey (now key) ≡ true ⌝ }
-    requires { ⌜ now ctx ≡ contextOf (now key) ⌝ }
+    requires { ⌜ Encrypts (now key) (now ctx) ⌝ }
     requires { ⌜ Fits tag capacity ⌝ }
     requires { ⌜ (length (now nonce) ≡ 12) × (length (now text) + tagBytes tag ≤ length (now out)) ⌝ }
     ensures { λ _. ⌜ now (out .exit) ≡ sealWith (cipher (now (key .entry))) tag capacity (now (nonce .entry)) (take (tagBytes tag) hash) (now (text .entry)) ++ drop (length (now (text .entry)) + tagBytes tag) (now (out .entry)) ⌝ }

@@ -5,14 +5,12 @@ use crate::pieces::mask;
 use cba_steps::pad;
 use cba_steps::step;
 ghost use mathlib.Core.Path.{_≡_};
-ghost use mathlib.Core.Bool.{true};
 ghost use mathlib.Core.List.{_++_};
 ghost use Prim.Native.Nat.{_+_, _-_, _*_, _/_, _≤_, _<_};
 ghost use lib.ListN.{length, take, drop};
 ghost use Rattle.octets.specs.Xor.{xors};
-ghost use Rattle.fips197.specs.Schedule.{isKey};
 ghost use Rattle.fips197.specs.Cipher.{cipher};
-ghost use Rattle.aes.specs.Context.{contextOf};
+ghost use Rattle.aes.specs.Context.{Encrypts};
 ghost use Rattle.cba_mode.specs.Offsets.{F};
 ghost use Rattle.cba_mode.specs.Seal.{joinedBlock, joinedLast, joinedEnd, joinedTail};
 
@@ -26,8 +24,7 @@ fn joined_block(
     last: &[u8],
     out: &mut [u8],
 )
-    requires { ⌜ isKey (now key) ≡ true ⌝ }
-    requires { ⌜ now ctx ≡ contextOf (now key) ⌝ }
+    requires { ⌜ Encrypts (now key) (now ctx) ⌝ }
     requires { ⌜ (length (now last) + length (now tag) ≤ 16) × (length (now last) + length (now tag) ≤ length (now out)) ⌝ }
     ensures { λ _. ⌜ now (out .exit) ≡ joinedBlock (cipher (now (key .entry))) offset m (now (last .entry) ++ now (tag .entry)) ++ drop (length (now (last .entry)) + length (now (tag .entry))) (now (out .entry)) ⌝ }
 {
@@ -45,8 +42,7 @@ fn joined_last(
     sum: [u8; 16],
     c: &[u8],
 ) -> [u8; 16]
-    requires { ⌜ isKey (now key) ≡ true ⌝ }
-    requires { ⌜ now ctx ≡ contextOf (now key) ⌝ }
+    requires { ⌜ Encrypts (now key) (now ctx) ⌝ }
     ensures { λ r. ⌜ r ≡ joinedLast (cipher (now (key .entry))) offset sum (now (c .entry)) ⌝ }
 {
     let x = octets::xor_block(pad(c), step(3, 3, offset));
@@ -55,8 +51,7 @@ fn joined_last(
 
 // C_{m-1} C_m over the first bytes of out, from M_{m-1} M_m after the blocks before them.
 fn joined_end(key: &[u8], ctx: &aes::Context, tag: &[u8], s: Running, rest: &[u8], out: &mut [u8])
-    requires { ⌜ isKey (now key) ≡ true ⌝ }
-    requires { ⌜ now ctx ≡ contextOf (now key) ⌝ }
+    requires { ⌜ Encrypts (now key) (now ctx) ⌝ }
     requires { ⌜ (16 ≤ length (now rest)) × (length (now rest) + length (now tag) ≤ 32) × (length (now rest) + length (now tag) ≤ length (now out)) ⌝ }
     ensures { λ _. ⌜ now (out .exit) ≡ joinedEnd (cipher (now (key .entry))) (F 2 2 (s .offset)) (xors (s .sum) (take 16 (now (rest .entry)))) (take 16 (now (rest .entry))) (drop 16 (now (rest .entry)) ++ now (tag .entry)) ++ drop (length (now (rest .entry)) + length (now (tag .entry))) (now (out .entry)) ⌝ }
 {
@@ -79,8 +74,7 @@ pub fn joined_tail(
     text: &[u8],
     out: &mut [u8],
 )
-    requires { ⌜ isKey (now key) ≡ true ⌝ }
-    requires { ⌜ now ctx ≡ contextOf (now key) ⌝ }
+    requires { ⌜ Encrypts (now key) (now ctx) ⌝ }
     requires { ⌜ (16 < length (now text)) × (length (now text) - 16 * ((length (now text) - 1) / 16) + length (now tag) ≤ 16) × (length (now text) + length (now tag) ≤ length (now out)) ⌝ }
     ensures { λ _. ⌜ now (out .exit) ≡ joinedTail (cipher (now (key .entry))) offset (now (tag .entry)) (now (text .entry)) ((length (now (text .entry)) - 1) / 16 - 1) ++ drop (length (now (text .entry)) + length (now (tag .entry))) (now (out .entry)) ⌝ }
 {

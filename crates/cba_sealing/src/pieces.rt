@@ -3,14 +3,12 @@ use cba_steps::doubled;
 use cba_steps::split;
 use cba_steps::whole;
 ghost use mathlib.Core.Path.{_≡_};
-ghost use mathlib.Core.Bool.{true};
 ghost use mathlib.Core.List.{_++_, _∷_};
 ghost use Prim.Native.Nat.{_+_, _*_, _≤_};
 ghost use lib.ListN.{length, take, drop};
 ghost use Rattle.octets.specs.Xor.{xors};
-ghost use Rattle.fips197.specs.Schedule.{isKey};
 ghost use Rattle.fips197.specs.Cipher.{cipher};
-ghost use Rattle.aes.specs.Context.{contextOf};
+ghost use Rattle.aes.specs.Context.{Encrypts};
 ghost use Rattle.cba_mode.specs.Offsets.{offset, leading};
 ghost use Rattle.cba_mode.specs.Seal.{checksum, cipherBlocks};
 
@@ -55,8 +53,7 @@ pub struct Running {
 
 // C = E(M ⊕ Δ) ⊕ Δ.
 pub fn sealed_block(key: &[u8], ctx: &aes::Context, m: [u8; 16], offset: [u8; 16]) -> [u8; 16]
-    requires { ⌜ isKey (now key) ≡ true ⌝ }
-    requires { ⌜ now ctx ≡ contextOf (now key) ⌝ }
+    requires { ⌜ Encrypts (now key) (now ctx) ⌝ }
     ensures { λ r. ⌜ r ≡ xors (cipher (now (key .entry)) (xors m offset)) offset ⌝ }
 {
     octets::xor_block(aes::encrypt(key, ctx, octets::xor_block(m, offset)), offset)
@@ -71,8 +68,7 @@ pub fn full_blocks(
     start: [u8; 16],
     out: &mut [u8],
 ) -> Running
-    requires { ⌜ isKey (now key) ≡ true ⌝ }
-    requires { ⌜ now ctx ≡ contextOf (now key) ⌝ }
+    requires { ⌜ Encrypts (now key) (now ctx) ⌝ }
     requires { ⌜ (16 * k ≤ length (now text)) × (16 * k ≤ length (now out)) ⌝ }
     ensures { λ r. ⌜ (r .offset ≡ offset start k) × (r .sum ≡ checksum (now (text .entry)) k) × (now (out .exit) ≡ cipherBlocks (cipher (now (key .entry))) start (now (text .entry)) k ++ drop (16 * k) (now (out .entry))) ⌝ }
 {

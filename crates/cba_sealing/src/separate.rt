@@ -6,14 +6,12 @@ use crate::pieces::right_aligned;
 use cba_steps::pad;
 use cba_steps::step;
 ghost use mathlib.Core.Path.{_≡_};
-ghost use mathlib.Core.Bool.{true};
 ghost use mathlib.Core.List.{_++_};
 ghost use Prim.Native.Nat.{_+_, _-_, _*_, _/_, _≤_, _<_};
 ghost use lib.ListN.{length, drop};
 ghost use Rattle.octets.specs.Xor.{xors};
-ghost use Rattle.fips197.specs.Schedule.{isKey};
 ghost use Rattle.fips197.specs.Cipher.{cipher};
-ghost use Rattle.aes.specs.Context.{contextOf};
+ghost use Rattle.aes.specs.Context.{Encrypts};
 ghost use Rattle.cba_mode.specs.Sets.{tagBytes};
 ghost use Rattle.cba_mode.specs.Offsets.{leading, pad};
 ghost use Rattle.cba_mode.specs.Seal.{lastBlock, lastOffset, separateTag, separateTail};
@@ -27,8 +25,7 @@ pub fn last_block(
     last: &[u8],
     out: &mut [u8],
 )
-    requires { ⌜ isKey (now key) ≡ true ⌝ }
-    requires { ⌜ now ctx ≡ contextOf (now key) ⌝ }
+    requires { ⌜ Encrypts (now key) (now ctx) ⌝ }
     requires { ⌜ (length (now tag) ≤ 16) × (length (now last) ≤ 16) × (length (now last) ≤ length (now out)) ⌝ }
     ensures { λ _. ⌜ now (out .exit) ≡ lastBlock (cipher (now (key .entry))) offset (now (tag .entry)) (now (last .entry)) ++ drop (length (now (last .entry))) (now (out .entry)) ⌝ }
 {
@@ -56,8 +53,7 @@ pub fn tag_block(
     sum: [u8; 16],
     last: &[u8],
 ) -> [u8; 16]
-    requires { ⌜ isKey (now key) ≡ true ⌝ }
-    requires { ⌜ now ctx ≡ contextOf (now key) ⌝ }
+    requires { ⌜ Encrypts (now key) (now ctx) ⌝ }
     requires { ⌜ length (now tag) ≤ 16 ⌝ }
     ensures { λ r. ⌜ r ≡ cipher (now (key .entry)) (xors (xors (xors sum (pad (now (last .entry)))) (leading 16 (now (tag .entry)))) (lastOffset offset (length (now (last .entry))))) ⌝ }
 {
@@ -80,8 +76,7 @@ fn separate_end(
     last: &[u8],
     out: &mut [u8],
 )
-    requires { ⌜ isKey (now key) ≡ true ⌝ }
-    requires { ⌜ now ctx ≡ contextOf (now key) ⌝ }
+    requires { ⌜ Encrypts (now key) (now ctx) ⌝ }
     requires { ⌜ (length (now tag) ≡ tagBytes tau) × (tagBytes tau ≤ 16) × (length (now last) ≤ 16) × (length (now last) + tagBytes tau ≤ length (now out)) ⌝ }
     ensures { λ _. ⌜ now (out .exit) ≡ (lastBlock (cipher (now (key .entry))) (s .offset) (now (tag .entry)) (now (last .entry)) ++ separateTag (cipher (now (key .entry))) tau (s .offset) (now (tag .entry)) (s .sum) (now (last .entry))) ++ drop (length (now (last .entry)) + tagBytes tau) (now (out .entry)) ⌝ }
 {
@@ -102,8 +97,7 @@ pub fn separate_tail(
     text: &[u8],
     out: &mut [u8],
 )
-    requires { ⌜ isKey (now key) ≡ true ⌝ }
-    requires { ⌜ now ctx ≡ contextOf (now key) ⌝ }
+    requires { ⌜ Encrypts (now key) (now ctx) ⌝ }
     requires { ⌜ (length (now tag) ≡ tagBytes tau) × (tagBytes tau ≤ 16) × (0 < length (now text)) × (length (now text) + tagBytes tau ≤ length (now out)) ⌝ }
     ensures { λ _. ⌜ now (out .exit) ≡ separateTail (cipher (now (key .entry))) tau offset (now (tag .entry)) (now (text .entry)) ((length (now (text .entry)) - 1) / 16) ++ drop (length (now (text .entry)) + tagBytes tau) (now (out .entry)) ⌝ }
 {

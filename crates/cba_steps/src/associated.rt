@@ -7,15 +7,13 @@ use crate::offsets::start;
 use crate::offsets::step;
 use crate::offsets::whole;
 ghost use mathlib.Core.Path.{_≡_};
-ghost use mathlib.Core.Bool.{true};
 ghost use mathlib.Core.List.{_++_};
 ghost use Prim.Native.Nat.{_≤_, _<_};
 ghost use lib.ListN.{length};
 ghost use Rattle.octets.specs.Numbers.{digits};
 ghost use Rattle.octets.specs.Xor.{xors};
-ghost use Rattle.fips197.specs.Schedule.{isKey};
 ghost use Rattle.fips197.specs.Cipher.{cipher};
-ghost use Rattle.aes.specs.Context.{contextOf};
+ghost use Rattle.aes.specs.Context.{Encrypts};
 ghost use Rattle.cba_mode.specs.Data.{withRest, dataSum, dataHash};
 ghost use Rattle.cba_steps.specs.Walk.{depth};
 
@@ -27,8 +25,7 @@ fn added(
     block: [u8; 16],
     offset: [u8; 16],
 ) -> [u8; 16]
-    requires { ⌜ isKey (now key) ≡ true ⌝ }
-    requires { ⌜ now ctx ≡ contextOf (now key) ⌝ }
+    requires { ⌜ Encrypts (now key) (now ctx) ⌝ }
     ensures { λ r. ⌜ r ≡ xors sum (cipher (now (key .entry)) (xors block offset)) ⌝ }
 {
     octets::xor_block(
@@ -45,8 +42,7 @@ fn with_rest(
     offset: [u8; 16],
     rest: &[u8],
 ) -> [u8; 16]
-    requires { ⌜ isKey (now key) ≡ true ⌝ }
-    requires { ⌜ now ctx ≡ contextOf (now key) ⌝ }
+    requires { ⌜ Encrypts (now key) (now ctx) ⌝ }
     ensures { λ r. ⌜ r ≡ withRest (cipher (now (key .entry))) sum offset (now (rest .entry)) ⌝ }
 {
     if rest.len() == 0 {
@@ -59,8 +55,7 @@ fn with_rest(
 // come, falls at each call and is at most 256. The offset goes by its halves as numbers, which stay in
 // registers: a level takes less of the stack.
 fn walk(key: &[u8], ctx: &aes::Context, sum: [u8; 16], a: u64, b: u64, rest: &[u8]) -> [u8; 16]
-    requires { ⌜ isKey (now key) ≡ true ⌝ }
-    requires { ⌜ now ctx ≡ contextOf (now key) ⌝ }
+    requires { ⌜ Encrypts (now key) (now ctx) ⌝ }
     requires { ⌜ depth (now rest) ≤ 256 ⌝ }
     ensures { λ r. ⌜ r ≡ dataSum (cipher (now (key .entry))) sum (digits 8 a ++ digits 8 b) (now (rest .entry)) ⌝ }
 {
@@ -76,8 +71,7 @@ fn walk(key: &[u8], ctx: &aes::Context, sum: [u8; 16], a: u64, b: u64, rest: &[u
 // The sum whose first τ bits are T_A, of at most 4,096 bytes: the walk is a recursion, and its stack
 // has to have an end.
 pub fn data_hash(key: &[u8], ctx: &aes::Context, tag: u8, capacity: u8, header: &[u8]) -> [u8; 16]
-    requires { ⌜ isKey (now key) ≡ true ⌝ }
-    requires { ⌜ now ctx ≡ contextOf (now key) ⌝ }
+    requires { ⌜ Encrypts (now key) (now ctx) ⌝ }
     requires { ⌜ length (now header) ≤ 4096 ⌝ }
     ensures { λ r. ⌜ r ≡ dataHash (cipher (now (key .entry))) tag capacity (now (header .entry)) ⌝ }
 {

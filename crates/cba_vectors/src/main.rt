@@ -28,8 +28,9 @@ fn print_data_tag(set: u8, key: &[u8], ad: &[u8]) {
     if ad.len() > 4096 {
         return;
     }
-    let mut ctx = aes::blank();
-    if aes::set_key(key, &mut ctx) {
+    if aes::is_key(key) {
+        let mut ctx = aes::blank();
+        aes::fill(key, &mut ctx);
         print_tag(
             cba_steps::data_hash(key, &ctx, p.tau, p.capacity, ad),
             p.tau,

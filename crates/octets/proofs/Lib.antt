@@ -5,3 +5,4 @@ pub mod Numbers
 pub mod Blocks
 pub mod Parts
 pub mod Count
+pub mod CompareLaws

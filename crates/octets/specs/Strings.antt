@@ -5,7 +5,7 @@ use mathlib.Core.Bool.{Bool, true, false, _&&_}
 use mathlib.Core.List.{List, [], _∷_, _++_}
 use Prim.Native.Nat.{ℕ, zero, suc, _<_}
 use lib.Dec.{eqb}
-use lib.ListN.{length}
+use lib.ListN.{length, drop}
 
 -- every element is a byte
 abbrev pub Bytes : List ℕ → Type 0
@@ -21,6 +21,10 @@ pub record Octets (n : ℕ) (s : List ℕ) : Type 0 where
 unfoldable pub table : (ℕ → ℕ) → ℕ → List ℕ
 table f zero = []
 table f (suc n) = table f n ++ (f n ∷ [])
+
+-- d with s over its first bytes
+abbrev pub over : List ℕ → List ℕ → List ℕ
+over s d = s ++ drop (length s) d
 
 -- two strings are the same
 abbrev pub eqs : List ℕ → List ℕ → Bool

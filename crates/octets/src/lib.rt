@@ -1,10 +1,14 @@
 // Byte strings: what the cipher and the mode share.
 //
 // The definitions are in specs/, the laws about them in proofs/.
+mod compare;
+
+pub use compare::clear;
+pub use compare::same;
 ghost use mathlib.Core.Path.{_≡_};
-ghost use mathlib.Core.List.{_++_};
 ghost use Prim.Native.Nat.{_≤_};
-ghost use lib.ListN.{length, take, drop};
+ghost use lib.ListN.{length, take};
+ghost use Rattle.octets.specs.Strings.{over};
 ghost use Rattle.octets.specs.Xor.{xors};
 
 // The exclusive or of two blocks.
@@ -24,7 +28,7 @@ pub fn xor_block(a: [u8; 16], b: [u8; 16]) -> [u8; 16]
 // of its slice that begins there: put(&mut out[at..], s).
 pub fn put(out: &mut [u8], s: &[u8])
     requires { ⌜ length (now s) ≤ length (now out) ⌝ }
-    ensures { λ _. ⌜ now (out .exit) ≡ now (s .entry) ++ drop (length (now (s .entry))) (now (out .entry)) ⌝ }
+    ensures { λ _. ⌜ now (out .exit) ≡ over (now (s .entry)) (now (out .entry)) ⌝ }
 {
     let mut i = 0;
     while i < s.len() {

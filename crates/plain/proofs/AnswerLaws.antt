@@ -16,8 +16,9 @@ use Rattle.cba_mode.specs.Sets.{capacity, keyBytes, tagBytes}
 use Rattle.cba_mode.specs.Seal.{ENC}
 use Rattle.cba_mode.specs.Open.{Opened, Answered, isFalse, messageOf, DEC}
 use Rattle.cba_mode.specs.Open.Opened.{opened, refused}
+use Rattle.octets.specs.Strings.{over}
 use Rattle.cba_rules.specs.Checks.{setTag, badSet, badKey, badNonce, longData, sealChecks, sealRows, openChecks, openRows}
-use Rattle.cba_rules.specs.Refusals.{sealing, opening, sealAnswer, openAnswer, over, sealLeaves, sealOutput, openLeaves, openOutput, SealCall, OpenCall}
+use Rattle.cba_rules.specs.Refusals.{sealing, opening, sealAnswer, openAnswer, sealLeaves, sealOutput, openLeaves, openOutput, SealCall, OpenCall}
 use Rattle.cba_rules.proofs.SetLaws.{set-fits, set-key}
 use Rattle.cba_rules.proofs.RefusalLaws.{Common, Opens, seal-refusals, seal-accepted, open-refusals, open-checked, open-parts, open-decides}
 use Rattle.plain.specs.declared.sets.Parameters.{Parameters}

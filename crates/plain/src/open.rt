@@ -52,8 +52,20 @@ fn open_accepted(
 {
     let mut ctx = aes::blank();
     aes::fill(key, &mut ctx);
+    let mut inv = aes::blank_inverse();
+    aes::fill_inverse(key, &ctx, &mut inv);
     let hash = data_hash(key, &ctx, p.tau, p.capacity, ad);
-    open_text(key, &ctx, p.tau, p.capacity, nonce, hash, ciphertext, out)
+    open_text(
+        key,
+        &ctx,
+        &inv,
+        p.tau,
+        p.capacity,
+        nonce,
+        hash,
+        ciphertext,
+        out,
+    )
 }
 
 // The checks after the first, for a set that is known, and the opening.

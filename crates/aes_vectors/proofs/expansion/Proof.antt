@@ -1,27 +1,22 @@
 -- `aes_vectors::expansion` is safe and ends: the context is the key's in every turn.
 -- Assumes nothing.
-use mathlib.Core.Path.{_≡_, sym, _∙_}
-use mathlib.Core.Bool.{true}
+use mathlib.Core.Path.{sym, _∙_}
 use Prim.Native.Nat.{_+_, _-_, _/_, _≤_}
 use lib.ListN.{length}
 use native.Mathlib.Omega.{arith}
 use borrow.Author.Needs.{needs}
-use Rattle.fips197.specs.Schedule.{isKey}
-use Rattle.aes.specs.Context.{contextOf}
-use Rattle.aes.proofs.ContextLaws.{keyed-good}
+use Rattle.aes.specs.Context.{Encrypts}
 use Rattle.aes_vectors.proofs.expansion.Statement.{statement}
 use Rattle.aes_vectors.proofs.expansion.Tie as tie
 
 abbrev Inv-loop : tie.InvT-loop
-Inv-loop name key ctx n₀ n = (isKey key ≡ true) × (ctx ≡ contextOf key) × (n ≤ length key / 4 + 7)
+Inv-loop name key ctx n₀ n = Encrypts key ctx × (n ≤ length key / 4 + 7)
 
 abbrev μ-loop : tie.MeasureT-loop
 μ-loop name key ctx n₀ n = length key / 4 + 7 - n
 
 loop-holds : tie.Need-loop-holds Inv-loop μ-loop
-loop-holds c =
-    let h = sym (c .before .set-key .ensures .0) ∙ c .if1 .taken in
-    (h, c .before .set-key .ensures .1 ∙ keyed-good _ _ h, search needs)
+loop-holds c = (c .before .fill .ensures, search needs)
 
 pub expansion-spec : {M : Type 1} → statement M
 expansion-spec =
@@ -32,9 +27,11 @@ expansion-spec =
     (λ c κs. search needs)
     (λ c κs. search needs)
     (λ c κs. search needs)
+    (λ c. search needs)
+    (λ c κs. (sym (c .before .before .before .is-key .ensures) ∙ c .before .before .if1 .taken, c .before .blank .ensures))
     loop-holds
     (λ c. search needs)
-    (λ c κs. let v = c .before .before .loop .inv in (v .0, (v .1, omega arith)))
+    (λ c κs. (c .before .before .loop .inv .0, omega arith))
     (λ c. search needs)
     (λ c. search needs)
     (λ c. search needs)

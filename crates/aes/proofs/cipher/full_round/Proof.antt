@@ -7,7 +7,7 @@ use Rattle.aes.proofs.cipher.full_round.Statement.{statement}
 use Rattle.aes.proofs.cipher.full_round.Tie as tie
 
 returns : tie.Need-returns
-returns c = c .add-key .ensures ∙ ap (addRoundKey _ _) (c .before .mix .ensures)
+returns c = c .add-key .ensures ∙ ap (addRoundKey _ _) (c .before .sub-shift-mix .ensures)
 
 pub full-round-spec : {M : Type 1} → statement M
 full-round-spec = tie.close (tie.spec (λ c κs. search needs) (λ c κs. search needs) returns)

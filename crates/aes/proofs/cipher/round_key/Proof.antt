@@ -6,10 +6,13 @@ use Prim.Native.Nat.{ℕ, _*_}
 use lib.ListN.{replicate, drop}
 use lib.Seq.{take-take}
 use native.Mathlib.Nat.{le-refl}
+use native.Mathlib.Omega.{arith}
 use borrow.Author.Needs.{needs}
+use Rattle.aes_tables.specs.Round.{forward}
 use Rattle.octets.specs.Blocks.{block}
 use Rattle.octets.proofs.Xor.{xors-zero}
 use Rattle.fips197.specs.Steps.{addRoundKey}
+use Rattle.aes.proofs.ContextLaws.{length-forward, keys-at}
 use Rattle.aes.proofs.cipher.round_key.Statement.{statement}
 use Rattle.aes.proofs.cipher.round_key.Tie as tie
 
@@ -23,4 +26,4 @@ returns c =
     c .write .ensures ∙ c .before .add-key .ensures ∙ to-zeros _ n ∙ ap (λ (w : List ℕ). block 16 w n) (c .before .before .round-keys .ensures .0)
 
 pub round-key-spec : {M : Type 1} → statement M
-round-key-spec = tie.close (tie.spec (λ c κs. search needs) (λ c κs. search needs) (λ c κs. search needs) returns)
+round-key-spec = tie.close (tie.spec (λ c κs. keys-at forward _ _ (c .before .before .pre .0) 2048 length-forward (omega arith)) (λ c κs. search needs) (λ c κs. search needs) returns)

@@ -1,49 +1,33 @@
--- `aes::context::fill` meets its contract: the inverse S-box and the schedule are written behind the round tables.
+-- `aes::context::fill` meets its contract: the schedule is written behind the round table.
 -- Assumes nothing.
-use mathlib.Core.Path.{_≡_, _∙_}
-use mathlib.Core.List.{List}
-use Prim.Native.Nat.{ℕ, _≤_}
 use native.Mathlib.Omega.{arith}
-use lib.ListN.{length}
+use lib.ListN.{length-take, length-drop}
 use borrow.Author.Needs.{needs}
-use Rattle.aes.proofs.ContextLaws.{back, lent, all-put, length-lent}
+use Rattle.aes_tables.specs.Round.{forward}
+use Rattle.fips197.specs.Schedule.{keyExpansion}
+use Rattle.aes.specs.Context.{roundKeys}
+use Rattle.aes.proofs.ContextLaws.{length-forward, blank-long, context-made}
 use Rattle.aes.proofs.context.fill.Statement.{statement}
 use Rattle.aes.proofs.context.fill.Tie as tie
 
-room : (l : List ℕ) → length l ≡ 4592 → 240 ≤ length (lent l 4352)
-room l n = omega (arith, length-lent l 4352, n)
-
-expand-requires : tie.Need-expand-requires
-expand-requires c κs =
-    let at-start = c .before .before .before .before .before .before .before .before .before .before .before in
-    let l = back (at-start .args .ctx .now) 4096 (c .before .before .before .before .put .last .0) in
-    let n : length l ≡ 4592 = c .before .before .before .ctx .given .1 ∙ at-start .pre .1 .0 in
-    (at-start .pre .0, (c .before .before .before .before .before .before .before .before .s-box .ensures, room l n))
-
 returns : tie.Need-returns
+unfolding roundKeys
 returns c =
-    let at-start = c .before .before .before .before .before .before .before .before .before .before .before .before .before .before in
-    let expand = c .before .before .expand in
-    all-put (at-start .args .key .now) _ _ _ _ (c .before .before .before .before .before .before .before .before .before .before .inverse-s-box .ensures) (at-start .pre .1 .1) (at-start .pre .1 .0)
-    (c .before .before .before .before .before .before .before .put .ensures)
-    (expand .ensures)
-    (expand .kept .1 .1 .0)
+    let at-start = c .before .before .before .before .before .before .before .before in
+    record {
+      good = at-start .pre .0;
+      context = context-made forward 2048 (keyExpansion (at-start .args .key .now)) _ _ length-forward (at-start .pre .1) (c .before .before .expand .ensures);
+    }
 
 pub fill-spec : {M : Type 1} → statement M
 fill-spec =
     tie.close
     (tie.spec
     (λ c κs. search needs)
-    (λ c κs. search needs)
     (λ c. search needs)
+    (λ c. omega (arith, blank-long forward 2048 _ length-forward (c .before .before .before .before .pre .1)))
+    (λ c. omega (arith, blank-long forward 2048 _ length-forward (c .before .before .before .before .pre .1)))
     (λ c. search needs)
+    (λ c κs. (c .before .before .before .before .before .pre .0, (c .before .before .s-box .ensures, simp (length-take, length-drop) (omega (arith, blank-long forward 2048 _ length-forward (c .before .before .before .before .before .pre .1))))))
     (λ c. search needs)
-    (λ c. search needs)
-    (λ c κs. search needs)
-    (λ c. search needs)
-    (λ c. search needs)
-    (λ c. search needs)
-    (λ c. search needs)
-    expand-requires
-    (λ c. c .before .ctx2 .given .1 ∙ c .before .before .before .before .before .before .ctx .given .1)
     returns)

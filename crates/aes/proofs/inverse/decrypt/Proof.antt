@@ -1,7 +1,10 @@
--- `aes::inverse::decrypt` meets its contract: the context holds the table and the schedule that the rounds read.
+-- `aes::inverse::decrypt` meets its contract: the context for decryption has what the rounds read.
 -- Assumes nothing.
+use native.Mathlib.Nat.{le-refl}
 use borrow.Author.Needs.{needs}
+use Rattle.aes_tables.specs.Round.{inverses}
 use Rattle.fips197.proofs.CipherLaws.{invCipher-at}
+use Rattle.aes.proofs.ContextLaws.{length-inverses, keys-at}
 use Rattle.aes.proofs.inverse.decrypt.Statement.{statement}
 use Rattle.aes.proofs.inverse.decrypt.Tie as tie
 
@@ -11,5 +14,5 @@ returns c = invCipher-at _ _ _ _ _ (c .before .before .round-keys .ensures .0) (
 pub decrypt-spec : {M : Type 1} → statement M
 decrypt-spec =
     tie.close
-    (tie.spec (λ c κs. search needs) (λ c κs. search needs) (λ c κs. search needs) (λ c κs. search needs) (λ c κs. (c .before .before .before .inverse-s-box .ensures, (c .before .before .inverse-table .ensures, search needs)))
+    (tie.spec (λ c κs. search needs) (λ c κs. search needs) (λ c κs. keys-at inverses _ _ (c .before .before .before .before .pre) 2304 length-inverses (le-refl 2304)) (λ c κs. search needs) (λ c κs. (c .before .before .before .inverse-s-box .ensures, (c .before .before .inverse-table .ensures, search needs)))
     returns)

@@ -10,7 +10,7 @@ use Rattle.cba_opening.proofs.blocks.opened_block.Tie as tie
 decrypt-requires : tie.Need-decrypt-requires
 decrypt-requires c κs =
     let p = c .before .before .pre in
-    (p .0, p .1)
+    p
 
 returns : tie.Need-returns
 returns c =

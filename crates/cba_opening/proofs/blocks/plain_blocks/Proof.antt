@@ -12,11 +12,11 @@ use Rattle.cba_opening.proofs.blocks.plain_blocks.Statement.{statement}
 use Rattle.cba_opening.proofs.blocks.plain_blocks.Tie as tie
 
 abbrev Inv-loop : tie.InvT-loop
-Inv-loop key ctx text k out₀ h₀ sum₀ i₀ out h sum i =
+Inv-loop key inv text k out₀ h₀ sum₀ i₀ out h sum i =
     Turned (invCipher key) (halvesOf h₀) text out₀ (Sums (invCipher key) (halvesOf h₀) text) k i (halvesOf h) sum out
 
 abbrev μ-loop : tie.MeasureT-loop
-μ-loop key ctx text k out₀ h₀ sum₀ i₀ out h sum i = k - i
+μ-loop key inv text k out₀ h₀ sum₀ i₀ out h sum i = k - i
 
 again : tie.Need-loop-again Inv-loop μ-loop
 again c =
@@ -30,7 +30,7 @@ again c =
     let block = at-double .before .first-block .ensures in
     let next = at-double .doubled .ensures in
     let made = rw (at-open .before .whole .ensures) at (at-open .opened-block .ensures) in
-    turned-once inv (at-test .loop-test .taken) (pre .1 .1 .1) _ _ _ _ _ block next made size
+    turned-once inv (at-test .loop-test .taken) (pre .1 .1) _ _ _ _ _ block next made size
     (plain-sum _ _ _ inv _ _ _ _ block next made size (c .xor-block .ensures)) (at-put .put .ensures)
 
 returns : tie.Need-returns Inv-loop μ-loop

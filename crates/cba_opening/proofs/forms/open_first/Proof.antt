@@ -13,13 +13,13 @@ use Rattle.cba_opening.proofs.forms.open_first.Tie as tie
 cover-requires : tie.Need-cover-requires
 cover-requires c κs =
     let p = c .before .before .before .before .before .pre in
-    let h = p .1 .1 .1 in
-    (p .0, (p .1 .0, (p .1 .1 .0, (h .0, omega (arith, p .1 .1 .0 .0, h .1), h .2))))
+    let h = p .1 .1 in
+    (p .0, (p .1 .0, (h .0, omega (arith, p .1 .0 .0, h .1), h .2)))
 
 returns : tie.Need-returns
 returns c =
     let a = c .before .before .before .before .before .before .before .before .before .args in
-    let p = c .before .before .before .before .before .before .before .before .before .pre .1 .1 in
+    let p = c .before .before .before .before .before .before .before .before .before .pre .1 in
     let b = c .before .before .before .cover .ensures in
     let made = c .with-first .ensures in
     let t = first-tag (cipher (a .key .now)) (a .tag) (a .capacity) (a .nonce .now) (take (tagBytes (a .tag)) (a .hash)) (a .first .now) _ _ (b .1) (b .2) (p .1 .1) (omega (arith, p .0 .0)) (made .1) in

@@ -21,7 +21,7 @@ open-first-requires c κs =
     let p = c .before .before .before .before .before .before .before .pre in
     let h = p .1 .1 .1 in
     let l = c .before .before .first-bytes .ensures in
-    (p .0, (p .1 .0, (p .1 .1 .0, (h .0, simp length-take (omega (arith, l)), simp length-take (omega (arith, l, h .1, h .4))))))
+    (p .0, (p .1 .1 .0, (h .0, simp length-take (omega (arith, l)), simp length-take (omega (arith, l, h .1, h .4)))))
 
 part-t-end : tie.Need-part-t-end
 part-t-end c =
@@ -51,7 +51,7 @@ returns c =
     let l = c .before .before .before .before .before .before .before .before .before .before .before .before .before .before .before .first-bytes .ensures in
     let E = cipher (a .key .now) in
     let D = invCipher (a .key .now) in
-    tail-turn E D (a .tag) (a .capacity) (a .nonce .now) (take (tagBytes (a .tag)) (a .hash)) (joinedAttempt E D (a .tag)) (λ (n : ℕ). (n - 1) / 16 - 1) (c .before .before .joined-tail .last .1 .1 .1 .1 .1 .1 .0)
+    tail-turn E D (a .tag) (a .capacity) (a .nonce .now) (take (tagBytes (a .tag)) (a .hash)) (joinedAttempt E D (a .tag)) (λ (n : ℕ). (n - 1) / 16 - 1) (c .before .before .joined-tail .last .1 .1 .1 .1 .1 .1 .1 .0)
     (record {
       bits = l;
       tags = c .before .before .before .before .before .before .before .tag-bytes .ensures;
@@ -68,7 +68,7 @@ returns c =
     (omega (arith, l, h .1))
     refl
     (c .before .before .joined-tail .ensures)
-    (c .before .before .joined-tail .kept .1 .1 .1 .1 .1 .1 .0)
+    (c .before .before .joined-tail .kept .1 .1 .1 .1 .1 .1 .1 .0)
 
 pub open-joined-spec : {M : Type 1} → statement M
 open-joined-spec = tie.close (tie.spec (λ c κs. search needs) slice-aggregate-open-first open-first-requires (λ c κs. search needs) (λ c. search needs) (λ c. search needs) (λ c. search needs) part-t-end (λ c. search needs) (λ c. search needs) (λ c. search needs) (λ c. search needs) (λ c. search needs) (λ c. search needs) joined-tail-requires (λ c. search needs) returns)

@@ -18,7 +18,7 @@ open-short-requires c κs =
     let h = p .1 .1 .1 in
     let l = c .before .before .before .first-bytes .ensures in
     let t = c .before .before .tag-bytes .ensures in
-    (p .0, (p .1 .0, (p .1 .1 .0, (h .0, h .1, rw (l, t) at (c .before .if1 .taken), h .2))))
+    (p .0, (p .1 .1 .0, (h .0, h .1, rw (l, t) at (c .before .if1 .taken), h .2)))
 
 returns : tie.Need-returns
 returns c =
@@ -41,7 +41,7 @@ returns-2 c =
     let a = c .before .before .before .before .before .before .before .before .before .before .before .before .args in
     let l = c .before .before .before .before .before .before .before .first-bytes .ensures in
     let t = c .before .before .before .before .before .before .tag-bytes .ensures in
-    attempt-form (cipher (a .key .now)) (invCipher (a .key .now)) (a .tag) (a .capacity) (a .nonce .now) (take (tagBytes (a .tag)) (a .hash)) separate (a .text .now) (a .out .now) (c .before .before .open-separate .last .1 .1 .1 .1 .1 .1 .1 .0) (length (a .text .now) - tagBytes (a .tag)) _
+    attempt-form (cipher (a .key .now)) (invCipher (a .key .now)) (a .tag) (a .capacity) (a .nonce .now) (take (tagBytes (a .tag)) (a .hash)) separate (a .text .now) (a .out .now) (c .before .before .open-separate .last .1 .1 .1 .1 .1 .1 .1 .1 .0) (length (a .text .now) - tagBytes (a .tag)) _
     (open-one _ _ _ (rw (l, t) at (c .before .before .before .before .before .if1 .left)) (rw l at (c .before .before .before .before .if2 .taken))) (c .before .before .open-separate .ensures)
 
 open-separate-requires-2 : tie.Need-open-separate-requires-2
@@ -57,7 +57,7 @@ returns-3 c =
     let a = c .before .before .before .before .before .before .before .before .before .before .before .before .before .args in
     let l = c .before .before .before .before .before .before .before .before .first-bytes .ensures in
     let t = c .before .before .before .before .before .before .before .tag-bytes .ensures in
-    attempt-form (cipher (a .key .now)) (invCipher (a .key .now)) (a .tag) (a .capacity) (a .nonce .now) (take (tagBytes (a .tag)) (a .hash)) separate (a .text .now) (a .out .now) (c .before .before .open-separate2 .last .1 .1 .1 .1 .1 .1 .1 .0) (length (a .text .now) - tagBytes (a .tag)) _
+    attempt-form (cipher (a .key .now)) (invCipher (a .key .now)) (a .tag) (a .capacity) (a .nonce .now) (take (tagBytes (a .tag)) (a .hash)) separate (a .text .now) (a .out .now) (c .before .before .open-separate2 .last .1 .1 .1 .1 .1 .1 .1 .1 .0) (length (a .text .now) - tagBytes (a .tag)) _
     (open-long _ _ _ (rw (l, t) at (c .before .before .before .before .before .before .if1 .left)) (rw (l, t) at (c .before .before .before .before .if3 .taken))) (c .before .before .open-separate2 .ensures)
 
 open-joined-requires : tie.Need-open-joined-requires
@@ -73,7 +73,7 @@ returns-4 c =
     let a = c .before .before .before .before .before .before .before .before .before .before .before .before .before .args in
     let l = c .before .before .before .before .before .before .before .before .first-bytes .ensures in
     let t = c .before .before .before .before .before .before .before .tag-bytes .ensures in
-    attempt-form (cipher (a .key .now)) (invCipher (a .key .now)) (a .tag) (a .capacity) (a .nonce .now) (take (tagBytes (a .tag)) (a .hash)) joined (a .text .now) (a .out .now) (c .before .before .open-joined .last .1 .1 .1 .1 .1 .1 .1 .0) (length (a .text .now) - tagBytes (a .tag)) _
+    attempt-form (cipher (a .key .now)) (invCipher (a .key .now)) (a .tag) (a .capacity) (a .nonce .now) (take (tagBytes (a .tag)) (a .hash)) joined (a .text .now) (a .out .now) (c .before .before .open-joined .last .1 .1 .1 .1 .1 .1 .1 .1 .0) (length (a .text .now) - tagBytes (a .tag)) _
     (open-joined _ _ _ (rw (l, t) at (c .before .before .before .before .before .before .if1 .left)) (rw (l, t) at (c .before .before .before .before .if3 .left)) (rw l at (c .before .before .before .before .before .if2 .left))) (c .before .before .open-joined .ensures)
 
 pub open-message-spec : {M : Type 1} → statement M

@@ -21,7 +21,7 @@ open-first-requires c κs =
     let p = c .before .before .before .before .before .before .before .pre in
     let h = p .1 .1 .1 in
     let l = c .before .before .first-bytes .ensures in
-    (p .0, (p .1 .0, (p .1 .1 .0, (h .0, simp length-take (omega (arith, l)), simp length-take (omega (arith, l, h .1, h .3))))))
+    (p .0, (p .1 .1 .0, (h .0, simp length-take (omega (arith, l)), simp length-take (omega (arith, l, h .1, h .3)))))
 
 part-t-end : tie.Need-part-t-end
 part-t-end c =
@@ -51,7 +51,7 @@ returns c =
     let l = c .before .before .before .before .before .before .before .before .before .before .before .before .before .before .before .first-bytes .ensures in
     let E = cipher (a .key .now) in
     let D = invCipher (a .key .now) in
-    tail-turn E D (a .tag) (a .capacity) (a .nonce .now) (take (tagBytes (a .tag)) (a .hash)) (separateAttempt E D (a .tag)) (λ (n : ℕ). (n - tagBytes (a .tag) - 1) / 16) (c .before .before .separate-tail .last .1 .1 .1 .1 .1 .1 .0)
+    tail-turn E D (a .tag) (a .capacity) (a .nonce .now) (take (tagBytes (a .tag)) (a .hash)) (separateAttempt E D (a .tag)) (λ (n : ℕ). (n - tagBytes (a .tag) - 1) / 16) (c .before .before .separate-tail .last .1 .1 .1 .1 .1 .1 .1 .0)
     (record {
       bits = l;
       tags = c .before .before .before .before .before .before .before .tag-bytes .ensures;
@@ -68,7 +68,7 @@ returns c =
     (omega (arith, l, h .1))
     (h .2)
     (c .before .before .separate-tail .ensures)
-    (c .before .before .separate-tail .kept .1 .1 .1 .1 .1 .1 .0)
+    (c .before .before .separate-tail .kept .1 .1 .1 .1 .1 .1 .1 .0)
 
 pub open-separate-spec : {M : Type 1} → statement M
 open-separate-spec = tie.close (tie.spec (λ c κs. search needs) slice-aggregate-open-first open-first-requires (λ c κs. search needs) (λ c. search needs) (λ c. search needs) (λ c. search needs) part-t-end (λ c. search needs) (λ c. search needs) (λ c. search needs) (λ c. search needs) (λ c. search needs) (λ c. search needs) separate-tail-requires (λ c. search needs) returns)

@@ -14,20 +14,20 @@ use Rattle.cba_opening.proofs.forms.open_short.Tie as tie
 cover-requires : tie.Need-cover-requires
 cover-requires c κs =
     let p = c .before .before .before .before .before .before .before .pre in
-    let h = p .1 .1 .1 in
-    let f = p .1 .1 .0 in
+    let h = p .1 .1 in
+    let f = p .1 .0 in
     let t = c .before .before .tag-bytes .ensures in
-    (p .0, (p .1 .0, (f, (h .0, simp length-take (omega (arith, t, h .2, f .2)), simp length-take (omega (arith, t, h .3))))))
+    (p .0, (f, (h .0, simp length-take (omega (arith, t, h .2, f .2)), simp length-take (omega (arith, t, h .3)))))
 
 slice-aggregate-same : tie.Need-slice-aggregate-same
 slice-aggregate-same c =
     let e : length (c .before .before .before .short-tag .result) ≡ 16 = c .before .before .before .short-tag .ok .1 .0 .1 in
-    simp length-take (omega (arith, c .before .tag-bytes2 .ensures, c .before .before .before .before .before .before .before .before .before .before .before .before .before .before .before .before .before .pre .1 .1 .0 .0))
+    simp length-take (omega (arith, c .before .tag-bytes2 .ensures, c .before .before .before .before .before .before .before .before .before .before .before .before .before .before .before .before .before .pre .1 .0 .0))
 
 same-requires : tie.Need-same-requires
 same-requires c κs =
     let e : length (c .before .before .before .short-tag .result) ≡ 16 = c .before .before .before .short-tag .ok .1 .0 .1 in
-    let p = c .before .before .before .before .before .before .before .before .before .before .before .before .before .before .before .before .before .pre .1 .1 in
+    let p = c .before .before .before .before .before .before .before .before .before .before .before .before .before .before .before .before .before .pre .1 in
     simp (length-take, length-drop) (omega (arith, c .before .tag-bytes2 .ensures, c .before .before .before .before .before .before .before .before .before .before .before .before .tag-bytes .ensures, p .0 .0, p .1 .1))
 
 returns : tie.Need-returns

@@ -13,14 +13,14 @@ joined-rest-requires : tie.Need-joined-rest-requires
 joined-rest-requires c κs =
     let l : length (c .before .before .before .before .put .last .0) ≡ length (c .before .before .before .before .before .before .before .before .before .before .before .before .before .before .before .before .before .args .out .now) = c .before .before .before .before .put .kept .0 in
     let p = c .before .before .before .before .before .before .before .before .before .before .before .before .before .before .before .before .before .pre in
-    let h = p .1 .1 in
-    (p .0, (p .1 .0, (simp length-take (omega (arith, h .0, h .1)), simp length-take (omega (arith, h .2)), simp (length-take, length-drop) (omega (arith, h .0, h .1, h .3)))))
+    let h = p .1 in
+    (p .0, (simp length-take (omega (arith, h .0, h .1)), simp length-take (omega (arith, h .2)), simp (length-take, length-drop) (omega (arith, h .0, h .1, h .3))))
 
 returns : tie.Need-returns
 returns c =
     let kept : length (c .before .before .before .before .before .before .before .put .last .0) ≡ length (c .before .before .before .before .before .before .before .before .before .before .before .before .before .before .before .before .before .before .before .before .args .out .now) = c .before .before .before .before .before .before .before .put .kept .0 in
     let a = c .before .before .before .before .before .before .before .before .before .before .before .before .before .before .before .before .before .before .before .before .args in
-    let h = c .before .before .before .before .before .before .before .before .before .before .before .before .before .before .before .before .before .before .before .before .pre .1 .1 in
+    let h = c .before .before .before .before .before .before .before .before .before .before .before .before .before .before .before .before .before .before .before .before .pre .1 in
     joined-end-turn (cipher (a .key .now)) (invCipher (a .key .now)) (a .tau) (a .tag .now) (a .s .offset) (a .s .sum) (a .rest .now) _ (c .before .before .before .before .before .before .before .before .before .before .joined-plain .result) (a .out .now) (c .before .before .before .before .before .before .before .put .last .0) (c .before .before .joined-rest .last .1 .1 .1 .1 .1 .1 .0) _
     (h .0) (h .1) (h .3) (c .before .before .before .before .before .before .before .before .before .before .before .before .first-block .ensures) (c .before .before .before .before .before .before .before .before .before .before .joined-plain .ensures) (c .before .before .before .before .before .before .before .before .before .before .joined-plain .ok .1 .0 .1) (c .before .before .before .before .before .before .before .put .ensures) kept (c .before .before .joined-rest .ensures) (c .before .before .joined-rest .kept .1 .1 .1 .1 .1 .1 .0)
 

@@ -12,18 +12,18 @@ use Rattle.cba_opening.proofs.joined.joined_rest.Tie as tie
 
 mask-requires : tie.Need-mask-requires
 mask-requires c κs =
-    let h = c .before .before .before .before .before .before .before .before .before .pre .1 .1 in
+    let h = c .before .before .before .before .before .before .before .before .before .pre .1 in
     (simp length-take (omega (arith, h .1)), simp length-take (omega (arith, h .0, h .2)))
 
 encrypt-requires : tie.Need-encrypt-requires
 encrypt-requires c κs =
     let p = c .before .before .before .before .before .before .pre in
-    (p .0, p .1 .0)
+    p .0
 
 returns : tie.Need-returns
 returns c =
     let a = c .before .before .before .before .before .before .before .before .before .before .before .before .before .args in
-    let h = c .before .before .before .before .before .before .before .before .before .before .before .before .before .pre .1 .1 in
+    let h = c .before .before .before .before .before .before .before .before .before .before .before .before .before .pre .1 in
     let at-encrypt = c .before .before .before .before .before .before in
     let block = at-encrypt .encrypt .ensures ∙ ap (cipher _) (at-encrypt .before .xor-block .ensures ∙ ap (xors _) (at-encrypt .before .before .step .ensures)) in
     joined-rest-turn (cipher (a .key .now)) (invCipher (a .key .now)) (a .offset) (a .m) (a .c .now) (a .tag .now) (a .out .now) (c .before .before .before .before .before .before .encrypt .result) _ _

@@ -15,14 +15,14 @@ plain-blocks-requires : tie.Need-plain-blocks-requires
 plain-blocks-requires c κs =
     let p = c .before .before .before .before .before .pre in
     let h = p .1 .1 in
-    (p .0, (p .1 .0, (omega (arith, h .1), omega (arith, h .1, h .2, h .3))))
+    (p .1 .0, (omega (arith, h .1), omega (arith, h .1, h .2, h .3)))
 
 joined-end-requires : tie.Need-joined-end-requires
 joined-end-requires c κs =
     let l : length (c .before .before .before .before .plain-blocks .last .1 .1 .1 .1 .1 .0) ≡ length (c .before .before .before .before .before .before .before .before .before .before .args .out .now) = c .before .before .before .before .plain-blocks .kept .1 .1 .1 .1 .1 .0 in
     let p = c .before .before .before .before .before .before .before .before .before .before .pre in
     let h = p .1 .1 in
-    (p .0, (p .1 .0, (h .0, rw rest-size (omega (arith, h .1, h .2)), rw rest-size (omega (arith, h .1)), rw (rest-size, rest-size) (omega (arith, l, h .1, h .2, h .3)))))
+    (p .0, (h .0, rw rest-size (omega (arith, h .1, h .2)), rw rest-size (omega (arith, h .1)), rw (rest-size, rest-size) (omega (arith, l, h .1, h .2, h .3))))
 
 returns : tie.Need-returns
 returns c =

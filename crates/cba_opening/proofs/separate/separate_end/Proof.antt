@@ -12,38 +12,38 @@ use Rattle.cba_opening.proofs.separate.separate_end.Tie as tie
 last-block-requires : tie.Need-last-block-requires
 last-block-requires c κs =
     let p = c .before .before .before .before .before .before .before .before .pre in
-    let h = p .1 .1 in
-    (p .0, (p .1 .0, (omega (arith, h .0, h .1), simp length-take (omega (arith, h .0, h .3)), simp length-take (omega (arith, h .0, h .4)))))
+    let h = p .1 in
+    (p .0, (omega (arith, h .0, h .1), simp length-take (omega (arith, h .0, h .3)), simp length-take (omega (arith, h .0, h .4))))
 
 slice-aggregate-tag-block : tie.Need-slice-aggregate-tag-block
 slice-aggregate-tag-block c =
     let l : length (c .before .before .before .last-block .last .1 .1 .1 .1 .1 .0) ≡ length (c .before .before .before .before .before .before .before .before .before .before .before .before .args .out .now) = c .before .before .before .last-block .kept .1 .1 .1 .1 .1 .0 in
-    let h = c .before .before .before .before .before .before .before .before .before .before .before .before .pre .1 .1 in
+    let h = c .before .before .before .before .before .before .before .before .before .before .before .before .pre .1 in
     simp length-take (omega (arith, h .0, h .4))
 
 tag-block-requires : tie.Need-tag-block-requires
 tag-block-requires c κs =
     let p = c .before .before .before .before .before .before .before .before .before .before .before .before .pre in
-    let h = p .1 .1 in
-    (p .0, (p .1 .0, omega (arith, h .0, h .1)))
+    let h = p .1 in
+    (p .0, omega (arith, h .0, h .1))
 
 slice-aggregate-same : tie.Need-slice-aggregate-same
 slice-aggregate-same c =
     let e : length (c .before .before .tag-block .result) ≡ 16 = c .before .before .tag-block .ok .1 .0 .1 in
-    let h = c .before .before .before .before .before .before .before .before .before .before .before .before .before .before .before .pre .1 .1 in
+    let h = c .before .before .before .before .before .before .before .before .before .before .before .before .before .before .before .pre .1 in
     simp length-take (omega (arith, h .0, h .1))
 
 same-requires : tie.Need-same-requires
 same-requires c κs =
     let e : length (c .before .before .tag-block .result) ≡ 16 = c .before .before .tag-block .ok .1 .0 .1 in
-    let h = c .before .before .before .before .before .before .before .before .before .before .before .before .before .before .before .pre .1 .1 in
+    let h = c .before .before .before .before .before .before .before .before .before .before .before .before .before .before .before .pre .1 in
     simp (length-take, length-drop) (omega (arith, h .0, h .1, h .2))
 
 returns : tie.Need-returns
 returns c =
     let kept : length (c .before .before .before .before .before .before .before .last-block .last .1 .1 .1 .1 .1 .0) ≡ length (c .before .before .before .before .before .before .before .before .before .before .before .before .before .before .before .before .args .out .now) = c .before .before .before .before .before .before .before .last-block .kept .1 .1 .1 .1 .1 .0 in
     let a = c .before .before .before .before .before .before .before .before .before .before .before .before .before .before .before .before .args in
-    let h = c .before .before .before .before .before .before .before .before .before .before .before .before .before .before .before .before .pre .1 .1 in
+    let h = c .before .before .before .before .before .before .before .before .before .before .before .before .before .before .before .before .pre .1 in
     separate-end-turn (cipher (a .key .now)) (invCipher (a .key .now)) (a .tau) (a .tag .now) (a .s .offset) (a .s .sum) (a .rest .now) (a .out .now) _ (c .before .before .before .before .before .before .before .last-block .last .1 .1 .1 .1 .1 .0) _
     (h .0) (h .2) (h .4) (c .before .before .before .before .before .before .before .last-block .ensures) kept (c .before .before .before .tag-block .ensures) (c .same .ensures)
 

@@ -16,14 +16,14 @@ plain-blocks-requires : tie.Need-plain-blocks-requires
 plain-blocks-requires c κs =
     let p = c .before .before .before .before .before .pre in
     let h = p .1 .1 in
-    (p .0, (p .1 .0, (omega (arith, h .2), omega (arith, h .0, h .2, h .3))))
+    (p .1 .0, (omega (arith, h .2), omega (arith, h .0, h .2, h .3)))
 
 separate-end-requires : tie.Need-separate-end-requires
 separate-end-requires c κs =
     let l : length (c .before .before .before .before .plain-blocks .last .1 .1 .1 .1 .1 .0) ≡ length (c .before .before .before .before .before .before .before .before .before .before .args .out .now) = c .before .before .before .before .plain-blocks .kept .1 .1 .1 .1 .1 .0 in
     let p = c .before .before .before .before .before .before .before .before .before .before .pre in
     let h = p .1 .1 in
-    (p .0, (p .1 .0, (h .0, h .1, simp (length-take, length-drop) (omega (arith, h .0, h .2)), simp (length-take, length-drop) (omega (arith, h .0)), simp (length-take, length-drop) (omega (arith, h .0, h .3)))))
+    (p .0, (h .0, h .1, simp (length-take, length-drop) (omega (arith, h .0, h .2)), simp (length-take, length-drop) (omega (arith, h .0)), simp (length-take, length-drop) (omega (arith, h .0, h .3))))
 
 returns : tie.Need-returns
 returns c =

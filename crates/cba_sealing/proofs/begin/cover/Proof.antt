@@ -18,7 +18,7 @@ returns c =
       b .2,
       b .3,
       first-out (cipher (a .key .now)) (a .tag) (a .capacity) (a .nonce .now) (take (tagBytes (a .tag)) (a .hash)) (a .first .now) (c .before .before .before .before .before .before .before .begin .result .r) (a .out .now) (c .before .before .mask .last .1 .1 .1 .0)
-          (b .0) size (c .before .before .before .before .before .before .before .before .before .before .before .before .pre .1 .1 .1 .1) (c .before .before .mask .ensures),
+          (b .0) size (c .before .before .before .before .before .before .before .before .before .before .before .before .pre .1 .1 .1) (c .before .before .mask .ensures),
     )
 
 pub cover-spec : {M : Type 1} → statement M

@@ -13,24 +13,24 @@ use Rattle.cba_sealing.proofs.begin.seal_first.Tie as tie
 cover-requires : tie.Need-cover-requires
 cover-requires c κs =
     let p = c .before .before .before .before .before .pre in
-    (p .0, (p .1 .0, (p .1 .1 .0, (p .1 .1 .1 .0, omega (arith, p .1 .1 .0 .0, p .1 .1 .1 .1), p .1 .1 .1 .2))))
+    (p .0, (p .1 .0, (p .1 .1 .0, omega (arith, p .1 .0 .0, p .1 .1 .1), p .1 .1 .2)))
 
 slice-aggregate-with-first : tie.Need-slice-aggregate-with-first
 slice-aggregate-with-first c =
-    let h = c .before .before .before .before .before .before .before .before .before .pre .1 .1 .1 in
+    let h = c .before .before .before .before .before .before .before .before .before .pre .1 .1 in
     let l : length (c .before .before .before .cover .last .1 .1 .1 .1 .1 .1 .1 .0) ≡ length (c .before .before .before .before .before .before .before .before .before .args .out .now) = search needs in
     simp length-take (omega (arith, h .2))
 
 with-first-requires : tie.Need-with-first-requires
 with-first-requires c κs =
-    let p = c .before .before .before .before .before .before .before .before .before .pre .1 .1 in
+    let p = c .before .before .before .before .before .before .before .before .before .pre .1 in
     simp length-take (omega (arith, p .0 .0, p .1 .1))
 
 returns : tie.Need-returns
 returns c =
     let kept : length (c .before .before .before .before .cover .last .1 .1 .1 .1 .1 .1 .1 .0) ≡ length (c .before .before .before .before .before .before .before .before .before .before .args .out .now) = search needs in
     let a = c .before .before .before .before .before .before .before .before .before .before .args in
-    let p = c .before .before .before .before .before .before .before .before .before .before .pre .1 .1 in
+    let p = c .before .before .before .before .before .before .before .before .before .before .pre .1 in
     let b = c .before .before .before .before .cover .ensures in
     let made = c .with-first .ensures in
     let t =

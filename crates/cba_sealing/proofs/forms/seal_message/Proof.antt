@@ -14,8 +14,8 @@ use Rattle.cba_sealing.proofs.forms.seal_message.Tie as tie
 seal-short-requires : tie.Need-seal-short-requires
 seal-short-requires c κs =
     let p = c .before .before .before .before .before .before .before .pre in
-    let h = p .1 .1 .1 in
-    (p .0, (p .1 .0, (p .1 .1 .0, (h .0, omega (arith, c .before .before .first-bytes .ensures, c .before .if1 .taken), h .1))))
+    let h = p .1 .1 in
+    (p .0, (p .1 .0, (h .0, omega (arith, c .before .before .first-bytes .ensures, c .before .if1 .taken), h .1)))
 
 returns : tie.Need-returns
 returns c =
@@ -25,8 +25,8 @@ returns c =
 seal-separate-requires : tie.Need-seal-separate-requires
 seal-separate-requires c κs =
     let p = c .before .before .before .before .before .before .before .before .pre in
-    let h = p .1 .1 .1 in
-    (p .0, (p .1 .0, (p .1 .1 .0, (h .0, omega (arith, c .before .before .before .first-bytes .ensures, c .before .before .if1 .left), h .1))))
+    let h = p .1 .1 in
+    (p .0, (p .1 .0, (h .0, omega (arith, c .before .before .before .first-bytes .ensures, c .before .before .if1 .left), h .1)))
 
 returns-2 : tie.Need-returns-2
 returns-2 c =
@@ -36,8 +36,8 @@ returns-2 c =
 seal-joined-requires : tie.Need-seal-joined-requires
 seal-joined-requires c κs =
     let p = c .before .before .before .before .before .before .before .before .before .before .pre in
-    let h = p .1 .1 .1 in
-    (p .0, (p .1 .0, (p .1 .1 .0, (h .0, omega (arith, c .before .before .before .before .before .first-bytes .ensures, c .before .before .before .before .if1 .left), rw (c .before .before .before .before .before .first-bytes .ensures) at (c .before .before .before .if2 .left), rw (c .before .before .before .before .before .first-bytes .ensures, c .before .before .tag-bytes .ensures) at (c .before .if3 .taken), h .1))))
+    let h = p .1 .1 in
+    (p .0, (p .1 .0, (h .0, omega (arith, c .before .before .before .before .before .first-bytes .ensures, c .before .before .before .before .if1 .left), rw (c .before .before .before .before .before .first-bytes .ensures) at (c .before .before .before .if2 .left), rw (c .before .before .before .before .before .first-bytes .ensures, c .before .before .tag-bytes .ensures) at (c .before .if3 .taken), h .1)))
 
 returns-3 : tie.Need-returns-3
 returns-3 c =
@@ -47,8 +47,8 @@ returns-3 c =
 seal-separate-requires-2 : tie.Need-seal-separate-requires-2
 seal-separate-requires-2 c κs =
     let p = c .before .before .before .before .before .before .before .before .before .before .pre in
-    let h = p .1 .1 .1 in
-    (p .0, (p .1 .0, (p .1 .1 .0, (h .0, omega (arith, c .before .before .before .before .before .first-bytes .ensures, c .before .before .before .before .if1 .left), h .1))))
+    let h = p .1 .1 in
+    (p .0, (p .1 .0, (h .0, omega (arith, c .before .before .before .before .before .first-bytes .ensures, c .before .before .before .before .if1 .left), h .1)))
 
 returns-4 : tie.Need-returns-4
 returns-4 c =

@@ -12,14 +12,14 @@ use Rattle.cba_sealing.proofs.forms.seal_separate.Statement.{statement}
 use Rattle.cba_sealing.proofs.forms.seal_separate.Tie as tie
 
 slice-aggregate-seal-first : tie.Need-slice-aggregate-seal-first
-slice-aggregate-seal-first c = sym (take-size _ _ (within (c .before .first-bytes .ensures) (c .before .before .before .before .before .before .pre .1 .1 .1 .1)))
+slice-aggregate-seal-first c = sym (take-size _ _ (within (c .before .first-bytes .ensures) (c .before .before .before .before .before .before .pre .1 .1 .1)))
 
 seal-first-requires : tie.Need-seal-first-requires
 seal-first-requires c κs =
     let p = c .before .before .before .before .before .before .before .pre in
-    let h = p .1 .1 .1 in
+    let h = p .1 .1 in
     let s = first-fits _ _ _ _ _ (c .before .before .first-bytes .ensures) (h .1) (h .2) in
-    (p .0, (p .1 .0, (p .1 .1 .0, (h .0, s .0, s .1))))
+    (p .0, (p .1 .0, (h .0, s .0, s .1)))
 
 part-t-end : tie.Need-part-t-end
 part-t-end c =
@@ -31,13 +31,13 @@ separate-tail-requires c κs =
     let at-first = c .before .before .before .before .before .before .before .before .before in
     let entry = at-first .before .before .before .before .before .before .before .before in
     let p = entry .pre in
-    let h = p .1 .1 .1 in
-    let f = tag-fits (p .1 .1 .0 .0) in
+    let h = p .1 .1 in
+    let f = tag-fits (p .1 .0 .0) in
     let w : length (at-first .seal-first .result .tag) ≡ 16 = search needs in
     let s =
     lent (entry .args .text .now) (at-first .seal-first .result .tag) (at-first .seal-first .last .1 .1 .1 .1 .1 .1 .1 .0) (at-first .before .before .before .first-bytes .ensures) (c .before .before .before .before .tag-bytes .ensures) f w
     (at-first .seal-first .kept .1 .1 .1 .1 .1 .1 .1 .0) (h .1) (h .2) in
-    (p .0, (p .1 .0, (s .1, f, rw (s .0) (s .2), rw (s .0) (s .3))))
+    (p .0, (s .1, f, rw (s .0) (s .2), rw (s .0) (s .3)))
 
 returns : tie.Need-returns
 returns c =
@@ -48,8 +48,8 @@ returns c =
     let at-bytes = at-first .before .before .before in
     let entry = at-bytes .before .before .before .before .before in
     let a = entry .args in
-    let h = entry .pre .1 .1 .1 in
-    let t = tag-fits (entry .pre .1 .1 .0 .0) in
+    let h = entry .pre .1 .1 in
+    let t = tag-fits (entry .pre .1 .0 .0) in
     let b = at-first .seal-first .ensures in
     let l = at-bytes .first-bytes .ensures in
     separate-turn (cipher (a .key .now)) (a .tag) (a .capacity) (a .nonce .now) (take (tagBytes (a .tag)) (a .hash)) (at-tail .separate-tail .last .1 .1 .1 .1 .1 .1 .0)

@@ -14,37 +14,37 @@ use Rattle.cba_sealing.proofs.forms.seal_short.Tie as tie
 cover-requires : tie.Need-cover-requires
 cover-requires c κs =
     let p = c .before .before .before .before .before .pre in
-    let h = p .1 .1 .1 in
-    let f = p .1 .1 .0 in
-    (p .0, (p .1 .0, (f, (h .0, omega (arith, h .1, f .2), omega (arith, h .2)))))
+    let h = p .1 .1 in
+    let f = p .1 .0 in
+    (p .0, (f, (h .0, omega (arith, h .1, f .2), omega (arith, h .2))))
 
 slice-aggregate-short-tag : tie.Need-slice-aggregate-short-tag
 slice-aggregate-short-tag c =
-    let h = c .before .before .before .before .before .before .before .before .before .before .before .pre .1 .1 .1 in
+    let h = c .before .before .before .before .before .before .before .before .before .before .before .pre .1 .1 in
     let l : length (c .before .before .before .before .before .cover .last .1 .1 .1 .1 .1 .1 .1 .0) ≡ length (c .before .before .before .before .before .before .before .before .before .before .before .args .out .now) = c .before .before .before .before .before .cover .kept .1 .1 .1 .1 .1 .1 .1 .0 in
     simp length-take (omega (arith, h .2))
 
 short-tag-requires : tie.Need-short-tag-requires
 short-tag-requires c κs =
     let p = c .before .before .before .before .before .before .before .before .before .before .before .pre in
-    (p .0, p .1 .0)
+    p .0
 
 slice-aggregate-put : tie.Need-slice-aggregate-put
 slice-aggregate-put c =
-    let f = c .before .before .before .before .before .before .before .before .before .before .before .before .before .before .before .pre .1 .1 .0 in
+    let f = c .before .before .before .before .before .before .before .before .before .before .before .before .before .before .before .pre .1 .0 in
     let e : length (c .before .before .before .short-tag .result) ≡ 16 = c .before .before .before .short-tag .ok .1 .0 .1 in
     rw (c .before .tag-bytes .ensures) (sym (tag-taken _ _ (f .0) e))
 
 put-requires : tie.Need-put-requires
 put-requires c κs =
-    let h = c .before .before .before .before .before .before .before .before .before .before .before .before .before .before .before .pre .1 .1 .1 in
+    let h = c .before .before .before .before .before .before .before .before .before .before .before .before .before .before .before .pre .1 .1 in
     let l : length (c .before .before .before .before .before .before .before .before .before .cover .last .1 .1 .1 .1 .1 .1 .1 .0) ≡ length (c .before .before .before .before .before .before .before .before .before .before .before .before .before .before .before .args .out .now) = c .before .before .before .before .before .before .before .before .before .cover .kept .1 .1 .1 .1 .1 .1 .1 .0 in
     simp (length-take, length-drop) (omega (arith, c .before .tag-bytes .ensures, h .2))
 
 returns : tie.Need-returns
 returns c =
     let a = c .before .before .before .before .before .before .before .before .before .before .before .before .before .before .before .before .before .before .args in
-    let h = c .before .before .before .before .before .before .before .before .before .before .before .before .before .before .before .before .before .before .pre .1 .1 in
+    let h = c .before .before .before .before .before .before .before .before .before .before .before .before .before .before .before .before .before .before .pre .1 in
     let b = c .before .before .before .before .before .before .before .before .before .before .before .before .cover .ensures in
     let kept : length (c .before .before .before .before .before .before .before .before .before .before .before .before .cover .last .1 .1 .1 .1 .1 .1 .1 .0) ≡ length (a .out .now) = c .before .before .before .before .before .before .before .before .before .before .before .before .cover .kept .1 .1 .1 .1 .1 .1 .1 .0 in
     let e : length (c .before .before .before .before .before .before .short-tag .result) ≡ 16 = c .before .before .before .before .before .before .short-tag .ok .1 .0 .1 in

@@ -10,7 +10,7 @@ use Rattle.cba_sealing.proofs.forms.short_tag.Tie as tie
 encrypt-requires : tie.Need-encrypt-requires
 encrypt-requires c κs =
     let p = c .before .before .before .before .before .before .pre in
-    (p .0, p .1)
+    p
 
 returns : tie.Need-returns
 returns c =

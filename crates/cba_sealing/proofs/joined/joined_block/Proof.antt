@@ -10,14 +10,14 @@ use Rattle.cba_sealing.proofs.joined.joined_block.Tie as tie
 encrypt-requires : tie.Need-encrypt-requires
 encrypt-requires c κs =
     let p = c .before .before .before .before .before .pre in
-    (p .0, p .1 .0)
+    p .0
 
 returns : tie.Need-returns
 returns c =
     let at-first = c .before .before .before .before .before .before in
     let at-block = at-first .before .before .before .before .before .before .before .before in
     let a = at-block .args in
-    let h = at-block .pre .1 .1 in
+    let h = at-block .pre .1 in
     let at-encrypt = at-first .before .before in
     let block = at-encrypt .encrypt .ensures ∙ ap (cipher _) (at-encrypt .before .xor-block .ensures) in
     joined-block-turn (cipher (a .key .now)) (a .offset) (a .m) (a .last .now) (a .tag .now) (a .out .now) _ (at-first .mask .last .1 .1 .1 .0) (c .before .before .mask2 .last .1 .1 .1 .0) block (at-encrypt .encrypt .ok .1 .0 .1) (h .0) (h .1)

@@ -12,12 +12,12 @@ use Rattle.cba_sealing.proofs.joined.joined_end.Tie as tie
 joined-block-requires : tie.Need-joined-block-requires
 joined-block-requires c κs =
     let p = c .before .before .before .before .before .before .before .before .before .pre in
-    let h = p .1 .1 in
-    (p .0, (p .1 .0, (simp (length-take, length-drop) (omega (arith, h)), simp (length-take, length-drop) (omega (arith, h)))))
+    let h = p .1 in
+    (p .0, (simp (length-take, length-drop) (omega (arith, h)), simp (length-take, length-drop) (omega (arith, h))))
 
 slice-aggregate-joined-last : tie.Need-slice-aggregate-joined-last
 slice-aggregate-joined-last c =
-    let h = c .before .before .before .before .before .before .before .before .before .before .before .before .before .before .before .pre .1 .1 in
+    let h = c .before .before .before .before .before .before .before .before .before .before .before .before .before .before .before .pre .1 in
     let l : length (c .before .before .before .before .before .joined-block .last .1 .1 .1 .1 .1 .1 .0) ≡ length (c .before .before .before .before .before .before .before .before .before .before .before .before .before .before .before .args .out .now) = c .before .before .before .before .before .joined-block .kept .1 .1 .1 .1 .1 .1 .0 in
     simp length-take (omega (arith, h))
 
@@ -25,7 +25,7 @@ returns : tie.Need-returns
 returns c =
     let at-block = c .before .before .before .before .before .before .before .before .before .before .before in
     let a = at-block .before .before .before .before .before .before .before .before .before .before .args in
-    let h = at-block .before .before .before .before .before .before .before .before .before .before .pre .1 .1 in
+    let h = at-block .before .before .before .before .before .before .before .before .before .before .pre .1 in
     let at-first = at-block .before .before .before in
     joined-end-turn (cipher (a .key .now)) (a .s .offset) (a .s .sum) _ _ _ (a .rest .now) (a .tag .now) (a .out .now) (at-block .joined-block .last .1 .1 .1 .1 .1 .1 .0)
     (c .before .before .before .before .before .joined-last .result) (c .before .before .put .last .0) (at-first .before .step .ensures) (at-first .first-block .ensures) (c .before .before .before .before .before .before .before .xor-block .ensures) (h .0) (h .2)

@@ -11,7 +11,7 @@ use Rattle.cba_sealing.proofs.joined.joined_last.Tie as tie
 encrypt-requires : tie.Need-encrypt-requires
 encrypt-requires c κs =
     let p = c .before .before .before .before .before .pre in
-    (p .0, p .1)
+    p
 
 returns : tie.Need-returns
 unfolding joinedLast

@@ -12,21 +12,21 @@ use Rattle.cba_sealing.proofs.joined.joined_tail.Tie as tie
 full-blocks-requires : tie.Need-full-blocks-requires
 full-blocks-requires c κs =
     let p = c .before .before .before .before .before .pre in
-    let h = p .1 .1 in
-    (p .0, (p .1 .0, (omega (arith, h .0), omega (arith, h .2))))
+    let h = p .1 in
+    (p .0, (omega (arith, h .0), omega (arith, h .2)))
 
 joined-end-requires : tie.Need-joined-end-requires
 joined-end-requires c κs =
     let p = c .before .before .before .before .before .before .before .before .before .before .pre in
-    let h = p .1 .1 in
+    let h = p .1 in
     let l : length (c .before .before .before .before .full-blocks .last .1 .1 .1 .1 .1 .0) ≡ length (c .before .before .before .before .before .before .before .before .before .before .args .out .now) = c .before .before .before .before .full-blocks .kept .1 .1 .1 .1 .1 .0 in
-    (p .0, (p .1 .0, (simp (length-take, length-drop) (omega (arith, h .0)), simp (length-take, length-drop) (omega (arith, h .0, h .1)), simp (length-take, length-drop) (omega (arith, h .2)))))
+    (p .0, (simp (length-take, length-drop) (omega (arith, h .0)), simp (length-take, length-drop) (omega (arith, h .0, h .1)), simp (length-take, length-drop) (omega (arith, h .2))))
 
 returns : tie.Need-returns
 returns c =
     let at-full = c .before .before .before .before .before .before .before in
     let a = at-full .before .before .before .before .before .before .args in
-    let h = at-full .before .before .before .before .before .before .pre .1 .1 in
+    let h = at-full .before .before .before .before .before .before .pre .1 in
     let done = at-full .full-blocks .ensures in
     joined-tail-turn (cipher (a .key .now)) (a .offset) (a .tag .now) (a .text .now) (a .out .now) (at-full .full-blocks .last .1 .1 .1 .1 .1 .0) (c .before .before .joined-end .last .1 .1 .1 .1 .1 .0) _ _ _
     (omega (arith, h .0)) (omega (arith, h .0)) (h .2) (at-full .full-blocks .kept .1 .1 .1 .1 .1 .0) (done .0) (done .1) (done .2) (c .before .before .joined-end .ensures) (c .before .before .joined-end .kept .1 .1 .1 .1 .1 .0)

@@ -27,7 +27,7 @@ again c =
     let size : length (at-seal .sealed-block .result) ≡ 16 = search needs in
     let inv = at-test .before .loop .inv in
     let block = at-double .before .first-block .ensures in
-    turned-once inv (at-test .loop-test .taken) (pre .1 .1 .1) _ _ _ _ _ block (at-double .doubled .ensures)
+    turned-once inv (at-test .loop-test .taken) (pre .1 .1) _ _ _ _ _ block (at-double .doubled .ensures)
     (rw (at-seal .before .whole .ensures) at (at-seal .sealed-block .ensures)) size
     (sum-turn _ _ _ _ _ (inv .sum-now) block (c .xor-block .ensures)) (at-put .put .ensures)
 

@@ -11,7 +11,7 @@ use Rattle.cba_sealing.proofs.separate.last_block.Tie as tie
 encrypt-requires : tie.Need-encrypt-requires
 encrypt-requires c κs =
     let p = c .before .before .before .before .before .before .before .pre in
-    (p .0, p .1 .0)
+    p .0
 
 returns : tie.Need-returns
 returns c =
@@ -22,4 +22,4 @@ returns c =
     last-block-turn (cipher (a .key .now)) (a .offset) (a .tag .now) (a .last .now) (a .out .now) _ _ block (c .before .before .mask .ensures)
 
 pub last-block-spec : {M : Type 1} → statement M
-last-block-spec = tie.close (tie.spec (λ c κs. c .before .before .before .before .pre .1 .1 .0) (λ c κs. search needs) (λ c κs. search needs) encrypt-requires (λ c κs. search needs) (λ c. search needs) returns)
+last-block-spec = tie.close (tie.spec (λ c κs. c .before .before .before .before .pre .1 .0) (λ c κs. search needs) (λ c κs. search needs) encrypt-requires (λ c κs. search needs) (λ c. search needs) returns)

@@ -10,7 +10,7 @@ use Rattle.cba_sealing.proofs.separate.tag_block.Tie as tie
 encrypt-requires : tie.Need-encrypt-requires
 encrypt-requires c κs =
     let p = c .before .before .before .before .before .before .before .before .before .pre in
-    (p .0, p .1 .0)
+    p .0
 
 returns : tie.Need-returns
 returns c =
@@ -24,4 +24,4 @@ returns c =
     (at-offset .last-offset .ensures))
 
 pub tag-block-spec : {M : Type 1} → statement M
-tag-block-spec = tie.close (tie.spec (λ c κs. search needs) (λ c κs. search needs) (λ c κs. c .before .before .before .before .before .pre .1 .1) (λ c κs. search needs) (λ c κs. search needs) (λ c κs. search needs) encrypt-requires returns)
+tag-block-spec = tie.close (tie.spec (λ c κs. search needs) (λ c κs. search needs) (λ c κs. c .before .before .before .before .before .pre .1) (λ c κs. search needs) (λ c κs. search needs) (λ c κs. search needs) encrypt-requires returns)

@@ -71,7 +71,7 @@ pub +walk-spec : {M : Type 1} → statement M
     (λ c. search needs)
     (λ c κs.
     let p = c .before .before .before .before .before .before .before .before .pre .1 in
-    (simp (length-take, length-drop) (omega arith), (p .0, (p .1 .0, simp (length-take, length-drop) (omega (arith, p .1 .1))))))
+    (simp (length-take, length-drop) (omega arith), (p .0, simp (length-take, length-drop) (omega (arith, p .1)))))
     (λ c.
     let at-added = c .before .before in
     let at-first = at-added .before .before in

@@ -13,7 +13,7 @@ use Rattle.cba_steps.proofs.associated.data_hash.Statement.{statement}
 use Rattle.cba_steps.proofs.associated.data_hash.Tie as tie
 
 walk-requires : tie.Need-walk-requires
-walk-requires c κs = let p = c .before .before .before .before .before .pre in (p .0, (p .1 .0, omega (arith, p .1 .1)))
+walk-requires c κs = let p = c .before .before .before .before .before .pre in (p .0, omega (arith, p .1))
 
 returns : tie.Need-returns
 unfolding dataHash L

@@ -14,19 +14,19 @@ use Rattle.plain.proofs.open.open_accepted.Tie as tie
 
 open-text-requires : tie.Need-open-text-requires
 open-text-requires c κs =
-    let p = c .before .before .before .before .before .before .before .before .before .before .before .before .before .pre in
-    (p .is-key, (c .before .before .before .before .before .fill .ensures, (p .fits, (p .nonce-length, p .least, p .room))))
+    let p = c .before .before .before .before .before .before .before .before .before .before .before .before .before .before .before .before .before .before .before .pre in
+    (c .before .before .before .before .before .before .before .before .before .before .before .fill .ensures, (c .before .before .before .before .before .before .fill-inverse .ensures, (p .fits, (p .nonce-length, p .least, p .room))))
 
 returns : tie.Need-returns
 unfolding tagOfData
 returns c =
-    let at-hash = c .before .before .before .before .before in
-    let a = at-hash .before .before .before .before .before .before .before .before .before .before .before .args in
+    let at-hash = c .before .before .before .before .before .before in
+    let a = at-hash .before .before .before .before .before .before .before .before .before .before .before .before .before .before .before .before .args in
     subst
     (λ (h : List ℕ).
-    Answered (openWith (cipher (a .key .now)) (invCipher (a .key .now)) (a .p .tau) (a .p .capacity) (a .nonce .now) (take (tagBytes (a .p .tau)) h) (a .ciphertext .now)) (length (a .ciphertext .now) - tagBytes (a .p .tau)) (c .before .before .open-text .result) (a .out .now) (c .before .before .open-text .last .1 .1 .1 .1 .1 .1 .1 .0))
+    Answered (openWith (cipher (a .key .now)) (invCipher (a .key .now)) (a .p .tau) (a .p .capacity) (a .nonce .now) (take (tagBytes (a .p .tau)) h) (a .ciphertext .now)) (length (a .ciphertext .now) - tagBytes (a .p .tau)) (c .before .before .open-text .result) (a .out .now) (c .before .before .open-text .last .1 .1 .1 .1 .1 .1 .1 .1 .0))
     (at-hash .data-hash .ensures)
     (c .before .before .open-text .ensures)
 
 pub open-accepted-spec : {M : Type 1} → statement M
-open-accepted-spec = tie.close (tie.spec (λ c κs. search needs) (λ c. search needs) (λ c κs. search needs) (λ c κs. search needs) open-text-requires (λ c. search needs) returns)
+open-accepted-spec = tie.close (tie.spec (λ c κs. search needs) (λ c. search needs) (λ c κs. search needs) (λ c κs. search needs) (λ c. search needs) (λ c κs. search needs) (λ c κs. search needs) open-text-requires (λ c. search needs) returns)

@@ -15,7 +15,7 @@ use Rattle.plain.proofs.seal.seal_accepted.Tie as tie
 seal-message-requires : tie.Need-seal-message-requires
 seal-message-requires c κs =
     let p = c .before .before .before .before .before .before .before .before .before .before .before .before .before .pre in
-    (p .is-key, (c .before .before .before .before .before .fill .ensures, (p .fits, (p .nonce-length, p .room))))
+    (c .before .before .before .before .before .fill .ensures, (p .fits, (p .nonce-length, p .room)))
 
 returns : tie.Need-returns
 unfolding tagOfData

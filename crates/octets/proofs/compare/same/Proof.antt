@@ -1,11 +1,11 @@
--- `opening::compare::same` meets its contract: after i turns the first i bytes are compared.
+-- `octets::compare::same` meets its contract: after i turns the first i bytes are compared.
 -- Assumes nothing.
 use Prim.Native.Nat.{_-_}
 use lib.ListN.{length}
 use borrow.Author.Needs.{needs}
-use Rattle.cba_opening.proofs.CompareLaws.{Compared, compared-none, compared-turn, compared-all}
-use Rattle.cba_opening.proofs.compare.same.Statement.{statement}
-use Rattle.cba_opening.proofs.compare.same.Tie as tie
+use Rattle.octets.proofs.CompareLaws.{Compared, compared-none, compared-turn, compared-all}
+use Rattle.octets.proofs.compare.same.Statement.{statement}
+use Rattle.octets.proofs.compare.same.Tie as tie
 
 abbrev Inv-loop : tie.InvT-loop
 Inv-loop a b differ₀ i₀ differ i = Compared a b differ i

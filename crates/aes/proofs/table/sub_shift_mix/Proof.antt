@@ -1,15 +1,15 @@
--- `aes::table::mix` meets its contract.
+-- `aes::table::sub_shift_mix` meets its contract.
 -- Assumes nothing.
 use borrow.Author.Needs.{needs}
 use Rattle.aes.proofs.TableLaws.{mix-block}
-use Rattle.aes.proofs.table.mix.Statement.{statement}
-use Rattle.aes.proofs.table.mix.Tie as tie
+use Rattle.aes.proofs.table.sub_shift_mix.Statement.{statement}
+use Rattle.aes.proofs.table.sub_shift_mix.Tie as tie
 
 returns : tie.Need-returns
 returns c =
     let at = c .before .before .before .before .before in
     mix-block (at .args .t .now) (at .pre) (at .args .k) _ _ _ _ (c .before .before .before .mixed .ensures) (c .before .before .mixed2 .ensures) (c .before .mixed3 .ensures) (c .mixed4 .ensures)
 
-pub mix-spec : {M : Type 1} → statement M
-mix-spec =
+pub sub-shift-mix-spec : {M : Type 1} → statement M
+sub-shift-mix-spec =
     tie.close (tie.spec (λ c κs. search needs) (λ c κs. search needs) (λ c κs. search needs) (λ c κs. search needs) returns)

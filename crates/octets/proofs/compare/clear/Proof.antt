@@ -1,14 +1,14 @@
--- `opening::compare::clear` meets its contract: after i turns the first i bytes are zeros.
+-- `octets::compare::clear` meets its contract: after i turns the first i bytes are zeros.
 -- Assumes nothing.
 use mathlib.Core.Path.{ap, _∙_}
 use mathlib.Core.List.{List, _++_}
 use Prim.Native.Nat.{ℕ, _-_}
 use lib.ListN.{drop}
 use borrow.Author.Needs.{needs}
 use Rattle.octets.proofs.Strings.{Filled, fill-none, fill-turn, filled}
-use Rattle.cba_opening.proofs.CompareLaws.{zeros}
-use Rattle.cba_opening.proofs.compare.clear.Statement.{statement}
-use Rattle.cba_opening.proofs.compare.clear.Tie as tie
+use Rattle.octets.proofs.CompareLaws.{zeros}
+use Rattle.octets.proofs.compare.clear.Statement.{statement}
+use Rattle.octets.proofs.compare.clear.Tie as tie
 
 abbrev Inv-loop : tie.InvT-loop
 Inv-loop out₀ n i₀ out i = Filled (λ k. 0) n out₀ i out
