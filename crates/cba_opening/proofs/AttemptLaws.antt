@@ -1,25 +1,26 @@
 -- What the joined and the separate form read after C_0, put together from their parts.
 -- Assumes nothing.
 use mathlib.Core.Path.{_≡_, refl, sym, ap, ap₂, _∙_}
-use mathlib.Core.Bool.{Bool}
+use mathlib.Core.Bool.{Bool, true, false}
 use mathlib.Core.List.{List, _++_}
 use Prim.Native.Nat.{ℕ, _+_, _-_, _*_, _≤_}
 use native.Mathlib.Omega.{arith}
 use lib.ListN.{length, take, drop, length-take, length-drop}
 use lib.Seq.{take-all, take-at, drop-at, take-add, take-take}
-use Rattle.octets.specs.Strings.{eqs}
+use Rattle.octets.specs.Strings.{over, eqs}
 use Rattle.octets.specs.Xor.{xors}
 use Rattle.octets.proofs.Xor.{length-xors, take-xors, drop-xors}
 use Rattle.cba_mode.specs.Sets.{tagBytes}
-use Rattle.cba_mode.specs.Offsets.{F, offset, pad, leading, lastBytes, butLast}
-use Rattle.cba_mode.specs.Seal.{checksum, lastBlock, lastOffset, separateTag}
-use Rattle.cba_mode.specs.Open.{Attempt, Tried, verified, after, plainBlocks, fromBlocks, joinedPlain, joinedRest, joinedAttempt, separateAttempt}
-use Rattle.octets.proofs.Parts.{then, to-end, size-of}
+use Rattle.cba_mode.specs.Offsets.{F, offset, lastBytes, butLast}
+use Rattle.cba_mode.specs.Seal.{checksum, cipherBlocks, lastBlock, separateTag}
+use Rattle.cba_mode.specs.Open.{Attempt, Tried, verified, after, fromBlocks, joinedPlain, joinedRest, joinedAttempt, separateAttempt}
+use Rattle.cba_mode.proofs.Undoing.{plain-cipher}
+use Rattle.cba_sealing.specs.declared.pieces.Running.{Running}
+use Rattle.cba_sealing.specs.Calls.{Passed, tagBlock}
+use Rattle.cba_opening.specs.Calls.{endAs}
+use Rattle.octets.proofs.Parts.{then, to-end, rest-size, size-of}
 
--- the part of a string from a place to its end, and the place where it ends without its last t bytes
-pub rest-size : (s : List ℕ) (n : ℕ) → length (take (length s - n) (drop n s)) ≡ length s - n
-rest-size s n = ap length (to-end s n) ∙ length-drop n s
-
+-- the place where a string ends without its last t bytes, from a part of it
 pub rest-end : (s : List ℕ) (n t : ℕ) → n + t ≤ length s → n + (length (take (length s - n) (drop n s)) - t) ≡ length s - t
 rest-end s n t h = rw (rest-size s n) (omega arith)
 
@@ -82,56 +83,56 @@ module _ (E D : List ℕ → List ℕ) where
       rw (← ee)
       (er, eo ∙ ap (λ (k : ℕ). xors (take n c) (take k e) ++ drop k d) l ∙ ap (λ (x : List ℕ). x ++ drop n d) (sym (but-masked c e (length tag) (omega arith))))
 
-  pub joined-end-turn : (τ : ℕ) (tag Δ S rest last m d out w : List ℕ) (r : Bool) → let n = length rest - 16 in
-      length tag ≡ tagBytes τ → 16 + tagBytes τ ≤ length rest → length rest ≤ length d + tagBytes τ →
+  pub joined-end-turn : (tag Δ S rest last m d out w : List ℕ) (r : Bool) → let n = length rest - 16 in
+      16 + length tag ≤ length rest → length rest ≤ length d + length tag →
       last ≡ take 16 (take (length rest - n) (drop n rest)) → m ≡ joinedPlain E D Δ S (take n rest) last → length m ≡ 16 →
-      out ≡ m ++ drop (length m) d → length out ≡ length d →
+      out ≡ over m d → length out ≡ length d →
       (r ≡ eqs (lastBytes (length tag) (joinedRest E D Δ (take n rest) m)) tag)
       × (w ≡ butLast (length tag) (joinedRest E D Δ (take n rest) m) ++ drop (length (take n rest) - length tag) (take (length out - 16) (drop 16 out))) →
       length w ≡ length (take (length out - 16) (drop 16 out)) →
-      Tried (joinedAttempt E D τ tag Δ S rest) (length rest - tagBytes τ) r d (take 16 out ++ (w ++ drop (length out - 16) (drop 16 out)))
-  unfolding joinedAttempt verified butLast lastBytes
-  joined-end-turn τ tag Δ S rest last m d out w r lt h hd el em lm eo lo t lw =
+      Tried (endAs true E D tag Δ S rest) (length rest - length tag) r d (take 16 out ++ (w ++ drop (length out - 16) (drop 16 out)))
+  unfolding endAs joinedAttempt verified butLast lastBytes
+  joined-end-turn tag Δ S rest last m d out w r h hd el em lm eo lo t lw =
       let n = length rest - 16 in
+      let lt : length tag ≡ tagBytes (8 * length tag) = omega arith in
       let l : length (take n rest) ≡ n = simp length-take (omega arith) in
       let el′ : last ≡ drop n rest = el ∙ ap (take 16) (to-end rest n) ∙ take-all 16 (drop n rest) (simp length-drop (omega arith)) in
       let em′ : m ≡ joinedPlain E D Δ S (take n rest) (drop n rest) = em ∙ ap (joinedPlain E D Δ S (take n rest)) el′ in
-      let all : 16 + (length (take n rest) - length tag) ≡ length rest - tagBytes τ = omega (arith, l) in
+      let all : 16 + (length (take n rest) - length tag) ≡ length rest - length tag = omega (arith, l) in
       let both =
       then d m out (butLast (length tag) (joinedRest E D Δ (take n rest) m)) w 16 (length (take n rest) - length tag)
       (eo ∙ ap (λ (k : ℕ). m ++ drop k d) lm) lo (omega (arith, l)) (t .1) lw
       ∙ ap (λ (k : ℕ). (m ++ butLast (length tag) (joinedRest E D Δ (take n rest) m)) ++ drop k d) all in (
         t .0 ∙ ap₂ (λ (x : List ℕ) (k : ℕ). eqs (lastBytes k (joinedRest E D Δ (take n rest) x)) tag) em′ lt,
-        both ∙ ap₂ (λ (x : List ℕ) (k : ℕ). (x ++ butLast k (joinedRest E D Δ (take n rest) x)) ++ drop (length rest - tagBytes τ) d) em′ lt,
+        both ∙ ap₂ (λ (x : List ℕ) (k : ℕ). (x ++ butLast k (joinedRest E D Δ (take n rest) x)) ++ drop (length rest - length tag) d) em′ lt,
       )
 
-  pub separate-end-turn : (τ : ℕ) (tag Δ S rest d e out : List ℕ) (r : Bool) → let n = length rest - length tag in
-      length tag ≡ tagBytes τ → tagBytes τ ≤ length rest → length rest ≤ length d + tagBytes τ →
-      out ≡ lastBlock E Δ tag (take n rest) ++ drop (length (take n rest)) d → length out ≡ length d →
-      e ≡ E (xors (xors (xors S (pad (take n out))) (leading 16 tag)) (lastOffset Δ (length (take n out)))) →
+  pub separate-end-turn : (tag Δ S rest d e out : List ℕ) (r : Bool) → let n = length rest - length tag in
+      length tag ≤ length rest → length rest ≤ length d + length tag →
+      out ≡ lastBlock E Δ tag (take n rest) ++ drop (length (take n rest)) d → length out ≡ length d → e ≡ tagBlock E Δ tag S (take n out) →
       r ≡ eqs (take (length rest - n) (drop n rest)) (take (length tag) e) →
-      Tried (separateAttempt E D τ tag Δ S rest) (length rest - tagBytes τ) r d out
-  unfolding separateAttempt verified butLast lastBytes separateTag
-  separate-end-turn τ tag Δ S rest d e out r lt h hd eo lo ee er =
+      Tried (endAs false E D tag Δ S rest) (length rest - length tag) r d out
+  unfolding endAs separateAttempt verified butLast lastBytes separateTag
+  separate-end-turn tag Δ S rest d e out r h hd eo lo ee er =
       let n = length rest - length tag in
+      let lt : length tag ≡ tagBytes (8 * length tag) = omega arith in
       let M = lastBlock E Δ tag (take n rest) in
       let l : length (take n rest) ≡ n = simp length-take (omega arith) in
       let eo′ : out ≡ M ++ drop n d = eo ∙ ap (λ (k : ℕ). M ++ drop k d) l in
       let first : take n out ≡ M = ap (take n) eo′ ∙ take-at M (drop n d) n (size-of d M out n eo′ lo (omega arith)) in
-      rw (← lt)
-      (er ∙ ap₂ eqs (to-end rest n) (ap (take (length tag)) (ee ∙ ap (λ (x : List ℕ). E (xors (xors (xors S (pad x)) (leading 16 tag)) (lastOffset Δ (length x)))) first)), eo′)
+      rw (← lt) (er ∙ ap₂ eqs (to-end rest n) (ap (take (length tag)) (ee ∙ ap (tagBlock E Δ tag S) first)), eo′)
 
   -- the full blocks, then what ends the form
-  pub blocks-turn : (end : List ℕ → List ℕ → List ℕ → Attempt) (t : ℕ) (Δ C Δₖ S d out w : List ℕ) (k K : ℕ) (r : Bool) →
+  pub blocks-turn : (end : List ℕ → List ℕ → List ℕ → Attempt) (t : ℕ) (Δ C d out w : List ℕ) (s : Running) (k : ℕ) (r : Bool) →
       let rest = take (length C - 16 * k) (drop (16 * k) C) in
-      k ≡ K → 16 * k + t ≤ length C → length C ≤ length d + t → length out ≡ length d →
-      (Δₖ ≡ offset Δ k) × (S ≡ checksum (plainBlocks E D Δ C k) k) × (out ≡ plainBlocks E D Δ C k ++ drop (16 * k) d) →
-      Tried (end Δₖ S rest) (length rest - t) r (take (length out - 16 * k) (drop (16 * k) out)) w →
+      16 * k + t ≤ length C → length C ≤ length d + t → length out ≡ length d → Passed D (checksum (cipherBlocks D Δ C k) k) Δ C d k s out →
+      Tried (end (s .offset) (s .sum) rest) (length rest - t) r (take (length out - 16 * k) (drop (16 * k) out)) w →
       length w ≡ length (take (length out - 16 * k) (drop (16 * k) out)) →
-      Tried (fromBlocks E D end Δ C K) (length C - t) r d (take (16 * k) out ++ (w ++ drop (length out - 16 * k) (drop (16 * k) out)))
+      Tried (fromBlocks E D end Δ C k) (length C - t) r d (take (16 * k) out ++ (w ++ drop (length out - 16 * k) (drop (16 * k) out)))
   unfolding fromBlocks
-  blocks-turn end t Δ C Δₖ S d out w k K r eK h hd lo v tried lw =
-      let Ms = plainBlocks E D Δ C k in
+  blocks-turn end t Δ C d out w s k r h hd lo v tried lw =
+      let Ms = cipherBlocks D Δ C k in
       let rest = take (length C - 16 * k) (drop (16 * k) C) in
-      let same : end Δₖ S rest ≡ end (offset Δ k) (checksum Ms k) (drop (16 * k) C) = rw (v .0, v .1, to-end C (16 * k)) refl in
-      rw (← eK, ← same) (after-turn (end Δₖ S rest) Ms d out w (16 * k) (length rest - t) (length C - t) r (v .2) lo (rest-end C (16 * k) t h) (omega arith) tried lw)
+      let same : end (s .offset) (s .sum) rest ≡ end (offset Δ k) (checksum Ms k) (drop (16 * k) C) = rw (v .offset-is, v .sum-is, to-end C (16 * k)) refl in
+      rw (plain-cipher E D Δ C k, ← same)
+      (after-turn (end (s .offset) (s .sum) rest) Ms d out w (16 * k) (length rest - t) (length C - t) r (v .written) lo (rest-end C (16 * k) t h) (omega arith) tried lw)

@@ -8,10 +8,9 @@ use native.Mathlib.Omega.{arith}
 use lib.ListN.{length, take, drop}
 use lib.Seq.{take-all, drop-at}
 use Rattle.octets.specs.Xor.{xors}
-use Rattle.cba_mode.specs.Offsets.{F, offset}
+use Rattle.cba_mode.specs.Offsets.{F}
 use Rattle.cba_mode.specs.Seal.{checksum, cipherBlocks}
-use Rattle.cba_mode.specs.Open.{plainBlocks}
-use Rattle.cba_mode.proofs.Undoing.{plain-cipher, checksum-prefix}
+use Rattle.cba_mode.proofs.Undoing.{checksum-prefix}
 use Rattle.cba_sealing.proofs.PieceLaws.{Turned, one-more}
 
 -- one block more
@@ -32,9 +31,3 @@ module _ (D : List ℕ → List ℕ) (Δ C : List ℕ) where
       rw (add-one i)
       (eS ∙ ap (λ (x : List ℕ). xors x c) (v .sum-now) ∙ sum-more (cipherBlocks D Δ C i) c i (v .size) lc
       ∙ ap (λ (x : List ℕ). checksum x (suc i)) (one-more v m δ c em eδ ec))
-
--- the loop's end, in the words of opening
-pub plain-all : (E D : List ℕ → List ℕ) (Δ C d Δₖ S out : List ℕ) (k : ℕ) →
-    (Δₖ ≡ offset Δ k) × (S ≡ checksum (cipherBlocks D Δ C k) k) × (out ≡ cipherBlocks D Δ C k ++ drop (16 * k) d) →
-    (Δₖ ≡ offset Δ k) × (S ≡ checksum (plainBlocks E D Δ C k) k) × (out ≡ plainBlocks E D Δ C k ++ drop (16 * k) d)
-plain-all E D Δ C d Δₖ S out k v = rw (plain-cipher E D Δ C k) v

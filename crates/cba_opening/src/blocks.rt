@@ -1,18 +1,15 @@
-// The full blocks of a ciphertext, one loop for the joined and the separate form.
+// The full blocks of a ciphertext.
 use cba_sealing::Running;
 use cba_steps::doubled;
 use cba_steps::split;
 use cba_steps::whole;
 ghost use mathlib.Core.Path.{_≡_};
-ghost use mathlib.Core.List.{_++_};
 ghost use Prim.Native.Nat.{_*_, _≤_};
-ghost use lib.ListN.{length, drop};
+ghost use lib.ListN.{length};
 ghost use Rattle.octets.specs.Xor.{xors};
-ghost use Rattle.fips197.specs.Cipher.{cipher, invCipher};
+ghost use Rattle.fips197.specs.Cipher.{invCipher};
 ghost use Rattle.aes.specs.Context.{Decrypts};
-ghost use Rattle.cba_mode.specs.Offsets.{offset};
-ghost use Rattle.cba_mode.specs.Seal.{checksum};
-ghost use Rattle.cba_mode.specs.Open.{plainBlocks};
+ghost use Rattle.cba_opening.specs.Calls.{OpenedBlocks};
 
 // M = D(C ⊕ Δ) ⊕ Δ.
 fn opened_block(key: &[u8], inv: &aes::Inverse, c: [u8; 16], offset: [u8; 16]) -> [u8; 16]
@@ -26,20 +23,21 @@ fn opened_block(key: &[u8], inv: &aes::Inverse, c: [u8; 16], offset: [u8; 16]) -
 pub fn plain_blocks(
     key: &[u8],
     inv: &aes::Inverse,
-    text: &[u8],
+    ciphertext: &[u8],
     k: usize,
     start: [u8; 16],
     out: &mut [u8],
 ) -> Running
     requires { ⌜ Decrypts (now key) (now inv) ⌝ }
-    requires { ⌜ (16 * k ≤ length (now text)) × (16 * k ≤ length (now out)) ⌝ }
-    ensures { λ r. ⌜ (r .offset ≡ offset start k) × (r .sum ≡ checksum (plainBlocks (cipher (now (key .entry))) (invCipher (now (key .entry))) start (now (text .entry)) k) k) × (now (out .exit) ≡ plainBlocks (cipher (now (key .entry))) (invCipher (now (key .entry))) start (now (text .entry)) k ++ drop (16 * k) (now (out .entry))) ⌝ }
+    requires { ⌜ 16 * k ≤ length (now ciphertext) ⌝ }
+    requires { ⌜ 16 * k ≤ length (now out) ⌝ }
+    ensures { λ r. ⌜ OpenedBlocks (now (key .entry)) start (now (ciphertext .entry)) (now (out .entry)) k r (now (out .exit)) ⌝ }
 {
     let mut h = split(start);
     let mut sum = [0u8; 16];
     let mut i = 0;
     while i < k {
-        let c = octets::first_block(&text[16 * i..]);
+        let c = octets::first_block(&ciphertext[16 * i..]);
         let next = doubled(h);
         let offset = whole(next);
         let m = opened_block(key, inv, c, offset);

@@ -1,177 +1,151 @@
-// The three forms of opening, and the choice between them.
-use crate::joined::joined_tail;
-use crate::separate::separate_tail;
-use cba_sealing::First;
+// The forms of opening, and the choice between them.
+use crate::blocks::plain_blocks;
+use crate::joined::joined_end;
+use crate::separate::separate_end;
 use cba_sealing::cover;
-use cba_sealing::first_bytes;
+use cba_sealing::full_tag;
 use cba_sealing::short_tag;
-use cba_sealing::tag_bytes;
-use cba_sealing::with_first;
-ghost use mathlib.Core.Path.{_≡_};
-ghost use mathlib.Core.Bool.{true};
-ghost use mathlib.Core.List.{_++_};
-ghost use Prim.Native.Nat.{_+_, _-_, _/_, _≤_, _<_};
-ghost use lib.ListN.{length, take, drop};
-ghost use Rattle.fips197.specs.Cipher.{cipher, invCipher};
+use cba_steps::Ending;
+use cba_steps::Parameters;
+use cba_steps::ending_of;
+ghost use Prim.Native.Nat.{_+_, _-_, _≤_, _<_};
+ghost use lib.ListN.{length};
 ghost use Rattle.aes.specs.Context.{Encrypts, Decrypts};
-ghost use Rattle.cba_mode.specs.Sets.{Fits, ell, tagBytes};
-ghost use Rattle.cba_mode.specs.Forms.{fullBlocks, lastLength, openForm};
-ghost use Rattle.cba_mode.specs.Forms.Form.{short, joined, separate};
-ghost use Rattle.cba_mode.specs.Offsets.{leading};
-ghost use Rattle.cba_mode.specs.Seal.{Δ₀, masked, T};
-ghost use Rattle.cba_mode.specs.Open.{Tried, attempt, openWith, Answered};
-
-// M_0 over the first bytes of out, and what the joined and the separate form go on with.
-fn open_first(
-    key: &[u8],
-    ctx: &aes::Context,
-    tag: u8,
-    capacity: u8,
-    nonce: &[u8],
-    hash: [u8; 16],
-    first: &[u8],
-    out: &mut [u8],
-) -> First
-    requires { ⌜ Encrypts (now key) (now ctx) ⌝ }
-    requires { ⌜ Fits tag capacity ⌝ }
-    requires { ⌜ (length (now nonce) ≡ 12) × (length (now first) ≤ tagBytes tag) × (length (now first) ≤ length (now out)) ⌝ }
-    ensures { λ h. ⌜ (h .offset ≡ Δ₀ (cipher (now (key .entry))) tag capacity (now (nonce .entry))) × (h .tag ≡ leading 16 (T tag (take (tagBytes tag) hash) (now (first .entry)))) × (length (T tag (take (tagBytes tag) hash) (now (first .entry))) ≡ tagBytes tag) × (now (out .exit) ≡ masked (cipher (now (key .entry))) tag capacity (now (nonce .entry)) (now (first .entry)) ++ drop (length (now (first .entry))) (now (out .entry))) ⌝ }
-{
-    let b = cover(key, ctx, tag, capacity, nonce, hash, first, out);
-    with_first(b, first)
-}
+ghost use Rattle.cba_mode.specs.Sets.{tagBytes};
+ghost use Rattle.cba_steps.specs.Endings.{Ends};
+ghost use Rattle.cba_sealing.specs.Calls.{firstBytes};
+ghost use Rattle.cba_opening.specs.Calls.{Opens, Tail, Try, Dec};
 
 // At most ℓ + τ bits.
 fn open_short(
     key: &[u8],
     ctx: &aes::Context,
-    tag: u8,
-    capacity: u8,
+    p: Parameters,
     nonce: &[u8],
-    hash: [u8; 16],
-    text: &[u8],
+    sum: [u8; 16],
+    ciphertext: &[u8],
     out: &mut [u8],
 ) -> bool
     requires { ⌜ Encrypts (now key) (now ctx) ⌝ }
-    requires { ⌜ Fits tag capacity ⌝ }
-    requires { ⌜ (length (now nonce) ≡ 12) × (tagBytes tag ≤ length (now text)) × (length (now text) ≤ ell tag capacity / 8 + tagBytes tag) × (length (now text) ≤ length (now out) + tagBytes tag) ⌝ }
-    ensures { λ r. ⌜ Tried (attempt (cipher (now (key .entry))) (invCipher (now (key .entry))) tag capacity short (now (nonce .entry)) (take (tagBytes tag) hash) (now (text .entry))) (length (now (text .entry)) - tagBytes tag) r (now (out .entry)) (now (out .exit)) ⌝ }
+    requires { ⌜ Opens p (now nonce) (now ciphertext) (now out) ⌝ }
+    requires { ⌜ length (now ciphertext) ≤ firstBytes p + tagBytes (p .tau) ⌝ }
+    ensures { λ r. ⌜ Try (now (key .entry)) p (now (nonce .entry)) sum (now (ciphertext .entry)) (now (out .entry)) r (now (out .exit)) ⌝ }
 {
-    let n = text.len() - tag_bytes(tag);
-    let b = cover(key, ctx, tag, capacity, nonce, hash, &text[..n], out);
+    let t = p.tag_bytes();
+    let n = ciphertext.len() - t;
+    let first = &ciphertext[..n];
+    let b = cover(key, ctx, p, nonce, sum, first, out);
     let data = b.data;
     let offset = b.offset;
-    let e = short_tag(key, ctx, data, offset, &text[..n]);
-    octets::same(&text[n..], &e[..tag_bytes(tag)])
+    let e = short_tag(key, ctx, data, offset, first);
+    octets::same(&ciphertext[n..], &e[..t])
 }
 
-// The last block and the tag in one block.
-fn open_joined(
+// M_1 M_2 .. over the first bytes of out, from what follows C_0.
+fn tail(
     key: &[u8],
     ctx: &aes::Context,
     inv: &aes::Inverse,
-    tag: u8,
-    capacity: u8,
-    nonce: &[u8],
-    hash: [u8; 16],
-    text: &[u8],
+    e: Ending,
+    tag: &[u8],
+    offset: [u8; 16],
+    rest: &[u8],
     out: &mut [u8],
 ) -> bool
     requires { ⌜ Encrypts (now key) (now ctx) ⌝ }
     requires { ⌜ Decrypts (now key) (now inv) ⌝ }
-    requires { ⌜ Fits tag capacity ⌝ }
-    requires { ⌜ (length (now nonce) ≡ 12) × (ell tag capacity / 8 + tagBytes tag < length (now text)) × (1 ≤ fullBlocks (ell tag capacity / 8) (length (now text))) × (tagBytes tag < lastLength (ell tag capacity / 8) (length (now text))) × (length (now text) ≤ length (now out) + tagBytes tag) ⌝ }
-    ensures { λ r. ⌜ Tried (attempt (cipher (now (key .entry))) (invCipher (now (key .entry))) tag capacity joined (now (nonce .entry)) (take (tagBytes tag) hash) (now (text .entry))) (length (now (text .entry)) - tagBytes tag) r (now (out .entry)) (now (out .exit)) ⌝ }
+    requires { ⌜ Ends (e .joined) (e .blocks) (length (now tag)) (length (now rest) - length (now tag)) ⌝ }
+    requires { ⌜ length (now tag) ≤ 16 ⌝ }
+    requires { ⌜ length (now rest) ≤ length (now out) + length (now tag) ⌝ }
+    ensures { λ r. ⌜ Tail (now (key .entry)) e (now (tag .entry)) offset (now (rest .entry)) (now (out .entry)) r (now (out .exit)) ⌝ }
 {
-    let l = first_bytes(tag, capacity);
-    let h = open_first(key, ctx, tag, capacity, nonce, hash, &text[..l], out);
-    let whole = h.tag;
-    let offset = h.offset;
-    let t = &whole[16 - tag_bytes(tag)..];
-    joined_tail(key, ctx, inv, tag, t, offset, &text[l..], &mut out[l..])
+    let k = e.blocks;
+    let s = plain_blocks(key, inv, rest, k, offset, out);
+    let end = &rest[16 * k..];
+    if e.joined {
+        return joined_end(key, ctx, tag, s, end, &mut out[16 * k..]);
+    }
+    separate_end(key, ctx, tag, s, end, &mut out[16 * k..])
 }
 
-// The tag in a block of its own: the last block has at most t bytes, or is the only one.
-fn open_separate(
+// More than ℓ + τ bits, in the form that the length takes.
+fn open_long(
     key: &[u8],
     ctx: &aes::Context,
     inv: &aes::Inverse,
-    tag: u8,
-    capacity: u8,
+    p: Parameters,
     nonce: &[u8],
-    hash: [u8; 16],
-    text: &[u8],
+    sum: [u8; 16],
+    ciphertext: &[u8],
     out: &mut [u8],
 ) -> bool
     requires { ⌜ Encrypts (now key) (now ctx) ⌝ }
     requires { ⌜ Decrypts (now key) (now inv) ⌝ }
-    requires { ⌜ Fits tag capacity ⌝ }
-    requires { ⌜ (length (now nonce) ≡ 12) × (ell tag capacity / 8 + tagBytes tag < length (now text)) × ((length (now text) - ell tag capacity / 8 - tagBytes tag - 1) / 16 ≡ fullBlocks (ell tag capacity / 8) (length (now text)) - 1) × (length (now text) ≤ length (now out) + tagBytes tag) ⌝ }
-    ensures { λ r. ⌜ Tried (attempt (cipher (now (key .entry))) (invCipher (now (key .entry))) tag capacity separate (now (nonce .entry)) (take (tagBytes tag) hash) (now (text .entry))) (length (now (text .entry)) - tagBytes tag) r (now (out .entry)) (now (out .exit)) ⌝ }
+    requires { ⌜ Opens p (now nonce) (now ciphertext) (now out) ⌝ }
+    requires { ⌜ firstBytes p + tagBytes (p .tau) < length (now ciphertext) ⌝ }
+    ensures { λ r. ⌜ Try (now (key .entry)) p (now (nonce .entry)) sum (now (ciphertext .entry)) (now (out .entry)) r (now (out .exit)) ⌝ }
 {
-    let l = first_bytes(tag, capacity);
-    let h = open_first(key, ctx, tag, capacity, nonce, hash, &text[..l], out);
-    let whole = h.tag;
-    let offset = h.offset;
-    let t = &whole[16 - tag_bytes(tag)..];
-    separate_tail(key, ctx, inv, tag, t, offset, &text[l..], &mut out[l..])
+    let l = p.first_bytes();
+    let t = p.tag_bytes();
+    let e = ending_of(l, t, ciphertext.len() - t);
+    let first = &ciphertext[..l];
+    let b = cover(key, ctx, p, nonce, sum, first, out);
+    let data = b.data;
+    let offset = b.offset;
+    let whole = full_tag(data, first);
+    tail(
+        key,
+        ctx,
+        inv,
+        e,
+        &whole[16 - t..],
+        offset,
+        &ciphertext[l..],
+        &mut out[l..],
+    )
 }
 
 // The attempt in the form that the length takes.
-fn open_message(
+fn attempted(
     key: &[u8],
     ctx: &aes::Context,
     inv: &aes::Inverse,
-    tag: u8,
-    capacity: u8,
+    p: Parameters,
     nonce: &[u8],
-    hash: [u8; 16],
-    text: &[u8],
+    sum: [u8; 16],
+    ciphertext: &[u8],
     out: &mut [u8],
 ) -> bool
     requires { ⌜ Encrypts (now key) (now ctx) ⌝ }
     requires { ⌜ Decrypts (now key) (now inv) ⌝ }
-    requires { ⌜ Fits tag capacity ⌝ }
-    requires { ⌜ (length (now nonce) ≡ 12) × (tagBytes tag ≤ length (now text)) × (length (now text) ≤ length (now out) + tagBytes tag) ⌝ }
-    ensures { λ r. ⌜ Tried (attempt (cipher (now (key .entry))) (invCipher (now (key .entry))) tag capacity (openForm (ell tag capacity / 8) (tagBytes tag) (length (now (text .entry)))) (now (nonce .entry)) (take (tagBytes tag) hash) (now (text .entry))) (length (now (text .entry)) - tagBytes tag) r (now (out .entry)) (now (out .exit)) ⌝ }
+    requires { ⌜ Opens p (now nonce) (now ciphertext) (now out) ⌝ }
+    ensures { λ r. ⌜ Try (now (key .entry)) p (now (nonce .entry)) sum (now (ciphertext .entry)) (now (out .entry)) r (now (out .exit)) ⌝ }
 {
-    let l = first_bytes(tag, capacity);
-    let t = tag_bytes(tag);
-    let n = text.len();
-    if n <= l + t {
-        return open_short(key, ctx, tag, capacity, nonce, hash, text, out);
+    if ciphertext.len() <= p.first_bytes() + p.tag_bytes() {
+        return open_short(key, ctx, p, nonce, sum, ciphertext, out);
     }
-    let k = (n - l - 1) / 16;
-    if k < 1 {
-        return open_separate(key, ctx, inv, tag, capacity, nonce, hash, text, out);
-    }
-    if n - l - 16 * k <= t {
-        return open_separate(key, ctx, inv, tag, capacity, nonce, hash, text, out);
-    }
-    open_joined(key, ctx, inv, tag, capacity, nonce, hash, text, out)
+    open_long(key, ctx, inv, p, nonce, sum, ciphertext, out)
 }
 
-// DEC, from the sum whose first t bytes are T_A: the message over the first bytes of out, or zeros where the tags differ.
-pub fn open_text(
+// DEC, given T_A, the first t bytes of the sum: the message over the first bytes of out, or zeros where the tags differ.
+pub fn dec(
     key: &[u8],
     ctx: &aes::Context,
     inv: &aes::Inverse,
-    tag: u8,
-    capacity: u8,
+    p: Parameters,
     nonce: &[u8],
-    hash: [u8; 16],
-    text: &[u8],
+    sum: [u8; 16],
+    ciphertext: &[u8],
     out: &mut [u8],
 ) -> bool
     requires { ⌜ Encrypts (now key) (now ctx) ⌝ }
     requires { ⌜ Decrypts (now key) (now inv) ⌝ }
-    requires { ⌜ Fits tag capacity ⌝ }
-    requires { ⌜ (length (now nonce) ≡ 12) × (tagBytes tag ≤ length (now text)) × (length (now text) ≤ length (now out) + tagBytes tag) ⌝ }
-    ensures { λ r. ⌜ Answered (openWith (cipher (now (key .entry))) (invCipher (now (key .entry))) tag capacity (now (nonce .entry)) (take (tagBytes tag) hash) (now (text .entry))) (length (now (text .entry)) - tagBytes tag) r (now (out .entry)) (now (out .exit)) ⌝ }
+    requires { ⌜ Opens p (now nonce) (now ciphertext) (now out) ⌝ }
+    ensures { λ r. ⌜ Dec (now (key .entry)) p (now (nonce .entry)) sum (now (ciphertext .entry)) (now (out .entry)) r (now (out .exit)) ⌝ }
 {
-    if open_message(key, ctx, inv, tag, capacity, nonce, hash, text, out) {
+    if attempted(key, ctx, inv, p, nonce, sum, ciphertext, out) {
         return true;
     }
-    octets::clear(out, text.len() - tag_bytes(tag));
+    octets::clear(out, ciphertext.len() - p.tag_bytes());
     false
 }

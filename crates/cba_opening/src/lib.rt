@@ -4,4 +4,4 @@ mod forms;
 mod joined;
 mod separate;
 
-pub use forms::open_text;
+pub use forms::dec;

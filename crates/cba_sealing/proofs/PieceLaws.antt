@@ -14,6 +14,7 @@ use Rattle.octets.proofs.Parts.{put-more, put-end}
 use Rattle.cba_mode.specs.Sets.{tagBytes}
 use Rattle.cba_mode.specs.Offsets.{F, offset, leading}
 use Rattle.cba_mode.specs.Seal.{checksum, cipherBlocks}
+use Rattle.cba_sealing.specs.Calls.{Passed}
 
 -- a part from the front that is there
 pub take-size : (n : ℕ) (s : List ℕ) → n ≤ length s → length (take n s) ≡ n
@@ -99,10 +100,11 @@ module _ {E : List ℕ → List ℕ} {Δ M d : List ℕ} {σ : ℕ → List ℕ}
 
   -- the end of the loop
   pub turned-all : {i : ℕ} {Δᵢ S out : List ℕ} → Turned E Δ M d σ k i Δᵢ S out → k ≤ i → (Δₖ : List ℕ) → Δₖ ≡ Δᵢ →
-      (Δₖ ≡ offset Δ k) × (S ≡ σ k) × (out ≡ cipherBlocks E Δ M k ++ drop (16 * k) d)
+      Passed E (σ k) Δ M d k (record { offset = Δₖ; sum = S }) out
   turned-all {i} v h Δₖ eΔ =
-      let e : i ≡ k = le-antisymm (v .within) h in (
-        eΔ ∙ v .offset-now ∙ ap (offset Δ) e,
-        v .sum-now ∙ ap σ e,
-        v .so-far ∙ ap (λ (n : ℕ). cipherBlocks E Δ M i ++ drop n d) (v .size) ∙ ap (λ (n : ℕ). cipherBlocks E Δ M n ++ drop (16 * n) d) e,
-      )
+      let e : i ≡ k = le-antisymm (v .within) h in
+      record {
+        offset-is = eΔ ∙ v .offset-now ∙ ap (offset Δ) e;
+        sum-is = v .sum-now ∙ ap σ e;
+        written = v .so-far ∙ ap (λ (n : ℕ). cipherBlocks E Δ M i ++ drop n d) (v .size) ∙ ap (λ (n : ℕ). cipherBlocks E Δ M n ++ drop (16 * n) d) e;
+      }

@@ -1,45 +1,41 @@
--- The three forms of sealing, put together from C_0 and what follows it.
+-- The forms of sealing, put together from C_0 and what follows it.
 -- Assumes nothing.
-use mathlib.Core.Path.{_≡_, refl, sym, ap, ap₂, _∙_}
+use mathlib.Core.Path.{_≡_, refl, sym, ap, ap₂, subst, _∙_}
+use mathlib.Core.Bool.{Bool, true, false}
 use mathlib.Core.List.{List, _++_}
-use Prim.Native.Nat.{ℕ, _+_, _-_, _/_, _<_, _≤_}
+use Prim.Native.Nat.{ℕ, suc, _+_, _-_, _*_, _/_, _<_, _≤_}
 use native.Mathlib.Omega.{arith}
 use lib.ListN.{length, take, drop, length-take, length-drop, replicate, length-replicate}
 use lib.Seq.{take-all, drop-at}
 use Rattle.octets.specs.Xor.{xors}
-use Rattle.cba_mode.specs.Sets.{tagBytes, ell}
-use Rattle.cba_mode.specs.Forms.{Form, sealForm}
-use Rattle.cba_mode.specs.Forms.Form.{short, joined, separate}
-use Rattle.cba_mode.specs.Offsets.{F, pad, leading}
-use Rattle.cba_mode.specs.Seal.{Δ₀, masked, shortTag, T, joinedTail, separateTail, sealAs, sealWith}
-use Rattle.cba_sealing.proofs.PieceLaws.{take-size}
-use Rattle.cba_sealing.proofs.BeginLaws.{first-taken}
+use Rattle.octets.specs.Blocks.{block}
 use Rattle.octets.proofs.Parts.{then, to-end}
+use Rattle.cba_mode.specs.Sets.{tagBytes, ell}
+use Rattle.cba_mode.specs.Forms.{Form, fullBlocks, sealForm}
+use Rattle.cba_mode.specs.Forms.Form.{short}
+use Rattle.cba_mode.specs.Offsets.{F, offset, pad, leading}
+use Rattle.cba_mode.specs.Seal.{Δ₀, masked, shortTag, T, checksum, cipherBlocks, joinedTail, lastBlock, separateTag, separateTail, sealAs, sealWith}
+use Rattle.cba_mode.proofs.FormLaws.{seal-short}
+use Rattle.cba_steps.specs.Endings.{formOf, Ends}
+use Rattle.cba_sealing.specs.Calls.{tagBlock, tailAs}
+use Rattle.cba_sealing.proofs.BeginLaws.{first-taken}
 
--- the parts that the tails are lent
-pub part-sizes : (m whole : List ℕ) (l t : ℕ) → length whole ≡ 16 → t ≤ 16 →
-    (length (take (length m - l) (drop l m)) ≡ length m - l) × (length (take (16 - (16 - t)) (drop (16 - t) whole)) ≡ t)
-part-sizes m whole l t w h = (ap length (to-end m l) ∙ length-drop l m, simp (length-take, length-drop) (omega arith))
+-- T as the tails are lent it: the last t bytes of a block
+pub tag-size : (whole : List ℕ) (t : ℕ) → length whole ≡ 16 → t ≤ 16 → length (take (16 - (16 - t)) (drop (16 - t) whole)) ≡ t
+tag-size whole t w h = simp (length-take, length-drop) (omega arith)
 
--- the first l bytes, and the parts that the tails are lent, where l and t are L and T, and n bytes may be written
-pub within : {l L n : ℕ} → l ≡ L → L < n → l ≤ n
-within e h = omega arith
+-- the number of full blocks before the end
+joined-count : (k m t : ℕ) → 16 * suc k < m → m + t ≤ 16 * suc (suc k) → k ≡ (m - 1) / 16 - 1
+joined-count k m t g h = omega arith
 
-pub first-fits : (τ b l : ℕ) (m : List ℕ) (n : ℕ) → l ≡ ell τ b / 8 → ell τ b / 8 < length m → length m + tagBytes τ ≤ n → (length (take l m) ≤ tagBytes τ) × (length (take l m) ≤ n)
-first-fits τ b l m n e h r =
-    let s : length (take l m) ≡ l = take-size l m (within e h) in
-    (omega arith, omega arith)
+separate-count : (k m : ℕ) → 16 * k < m → m ≤ 16 * suc k → k ≡ (m - 1) / 16
+separate-count k m g h = omega arith
 
-pub lent : (m whole out : List ℕ) {l t L T n : ℕ} → l ≡ L → t ≡ T → T ≤ 16 → length whole ≡ 16 → length out ≡ n → L < length m → length m + T ≤ n →
-    (length (take (length m - l) (drop l m)) ≡ length m - L) × (length (take (16 - (16 - t)) (drop (16 - t) whole)) ≡ T) × (0 < length m - L)
-    × (length m - L + T ≤ length (take (length out - l) (drop l out)))
-lent m whole out {l} {t} el et f w lo h r =
-    let s = part-sizes m whole l t w (omega arith) in
-    let o : length (take (length out - l) (drop l out)) ≡ length out - l = ap length (to-end out l) ∙ length-drop l out in
-    (s .0 ∙ ap (λ (k : ℕ). length m - k) el, s .1 ∙ et, omega arith, omega arith)
-
-pub two-blocks : {k : ℕ} → 1 ≤ (k - 1) / 16 → 16 < k
-two-blocks h = omega arith
+-- the separate form needs τ for its tag's length alone
+tag-alone : (E : List ℕ → List ℕ) (σ τ : ℕ) (Δ Tag M′ : List ℕ) (k : ℕ) → tagBytes σ ≡ tagBytes τ → separateTail E σ Δ Tag M′ k ≡ separateTail E τ Δ Tag M′ k
+unfolding separateTail separateTag
+tag-alone E σ τ Δ Tag M′ k e =
+    ap (λ (n : ℕ). cipherBlocks E Δ M′ k ++ (lastBlock E (offset Δ k) Tag (block 16 M′ k) ++ take n (tagBlock E (offset Δ k) Tag (checksum M′ k) (block 16 M′ k)))) e
 
 -- Before the tail of a message or ciphertext m goes over d, n bytes in all: its first l bytes do already, whole is T with zeros
 -- before it, which is over C_0, and l and t are ℓ and τ in bytes.
@@ -51,25 +47,31 @@ pub record Headed (E : List ℕ → List ℕ) (τ b : ℕ) (N Ta C₀ m d out wh
   pub at-most : tagBytes τ ≤ 16
   pub head : out ≡ masked E τ b N (take l m) ++ drop (length (take l m)) d
   pub kept : length out ≡ length d
-  pub block : length whole ≡ 16
+  pub whole-size : length whole ≡ 16
   pub holds : whole ≡ leading 16 (T τ Ta C₀)
   pub size : length (T τ Ta C₀) ≡ tagBytes τ
   pub start : Δ ≡ Δ₀ E τ b N
 
 module _ (E : List ℕ → List ℕ) (τ b : ℕ) (N Ta : List ℕ) where
-  pub short-turn : (m d out ta off e w : List ℕ) → out ≡ masked E τ b N m ++ drop (length m) d → length out ≡ length d → length m + tagBytes τ ≤ length d → tagBytes τ ≤ 16 →
+  -- a sealing is in the form that the length takes
+  form-is : (f : Form) (M : List ℕ) {l t : ℕ} → l ≡ ell τ b / 8 → t ≡ tagBytes τ → sealForm l t (length M) ≡ f → sealAs E τ b f N Ta M ≡ sealWith E τ b N Ta M
+  unfolding sealWith
+  form-is f M el et e = ap (λ (g : Form). sealAs E τ b g N Ta M) (sym e ∙ ap₂ (λ (x y : ℕ). sealForm x y (length M)) el et)
+
+  pub short-turn : (m d out ta off e w : List ℕ) → length m ≤ ell τ b / 8 → out ≡ masked E τ b N m ++ drop (length m) d → length out ≡ length d → length m + tagBytes τ ≤ length d → tagBytes τ ≤ 16 →
       ta ≡ leading 16 Ta → off ≡ Δ₀ E τ b N → e ≡ E (xors (xors ta (pad (take (length m) out))) (F 3 3 off)) → length e ≡ 16 →
       w ≡ take (tagBytes τ) e ++ drop (length (take (tagBytes τ) e)) (take (length out - length m) (drop (length m) out)) →
       length w ≡ length (take (length out - length m) (drop (length m) out)) →
-      take (length m) out ++ (w ++ drop (length out - length m) (drop (length m) out)) ≡ sealAs E τ b short N Ta m ++ drop (length m + tagBytes τ) d
+      take (length m) out ++ (w ++ drop (length out - length m) (drop (length m) out)) ≡ sealWith E τ b N Ta m ++ drop (length m + tagBytes τ) d
   unfolding sealAs shortTag
-  short-turn m d out ta off e w eo lo hd ht eta eoff ee le ew lw =
+  short-turn m d out ta off e w hm eo lo hd ht eta eoff ee le ew lw =
       let l : length (take (tagBytes τ) e) ≡ tagBytes τ = simp length-take (omega arith) in
       let x : e ≡ E (xors (xors (leading 16 Ta) (pad (masked E τ b N m))) (F 3 3 (Δ₀ E τ b N))) =
       ee ∙ ap E (ap₂ xors (ap₂ xors eta (ap pad (first-taken E τ b N Ta m d out eo lo (omega arith)))) (ap (F 3 3) eoff)) in
       then d (masked E τ b N m) out (take (tagBytes τ) e) w (length m) (tagBytes τ) eo lo hd
       (ew ∙ ap (λ (k : ℕ). take (tagBytes τ) e ++ drop k (take (length out - length m) (drop (length m) out))) l) lw
       ∙ ap (λ (y : List ℕ). (masked E τ b N m ++ take (tagBytes τ) y) ++ drop (length m + tagBytes τ) d) x
+      ∙ ap (λ (y : List ℕ). y ++ drop (length m + tagBytes τ) d) (form-is short m refl refl (seal-short _ _ _ hm))
 
   -- T without the zeros before it
   pub tag-end : (t Tag : List ℕ) (n : ℕ) → t ≡ leading 16 Tag → length Tag ≡ n → n ≤ 16 → length t ≡ 16 → take (16 - (16 - n)) (drop (16 - n) t) ≡ Tag
@@ -93,42 +95,42 @@ module _ (E : List ℕ → List ℕ) (τ b : ℕ) (N Ta : List ℕ) where
       let n : length (take l m) ≡ l = simp length-take (omega arith) in
       let er : rest ≡ drop l m = to-end m l in
       let lr : length rest ≡ length m - l = ap length er ∙ length-drop l m in
-      let eT : tag ≡ T τ Ta C = tag-end whole (T τ Ta C) t (v .holds) (v .size ∙ sym (v .tags)) (omega arith) (v .block) in
+      let eT : tag ≡ T τ Ta C = tag-end whole (T τ Ta C) t (v .holds) (v .size ∙ sym (v .tags)) (omega arith) (v .whole-size) in
       let all : l + (length rest + tagBytes τ) ≡ length m + tagBytes τ = omega (arith, lr) in
       let same : G Δ tag rest ≡ G (Δ₀ E τ b N) (T τ Ta C) (drop l m) = rw (v .start, eT, er) refl in
       then d C out (G Δ tag rest) w l (length rest + tagBytes τ) (v .head ∙ ap (λ (k : ℕ). C ++ drop k d) n) (v .kept) (omega (arith, lr)) e le
       ∙ ap₂ (λ (x : List ℕ) (k : ℕ). (C ++ x) ++ drop k d) same all
       ∙ ap (λ (k : ℕ). (masked E τ b N (take k m) ++ G (Δ₀ E τ b N) (T τ Ta (masked E τ b N (take k m))) (drop k m)) ++ drop (length m + tagBytes τ) d) (v .bits)
 
-  pub separate-turn : {m d out whole Δ : List ℕ} {l t : ℕ} (w : List ℕ) → Headed E τ b N Ta (masked E τ b N (take l m)) m d out whole Δ (length m + tagBytes τ) l t →
-      w ≡ separateTail E τ Δ (take (16 - (16 - t)) (drop (16 - t) whole)) (take (length m - l) (drop l m)) ((length (take (length m - l) (drop l m)) - 1) / 16)
-      ++ drop (length (take (length m - l) (drop l m)) + tagBytes τ) (take (length out - l) (drop l out)) →
-      length w ≡ length (take (length out - l) (drop l out)) →
-      take l out ++ (w ++ drop (length out - l) (drop l out)) ≡ sealAs E τ b separate N Ta m ++ drop (length m + tagBytes τ) d
-  unfolding sealAs
-  separate-turn {m} {d} w v e le =
+  -- the tail by its ending is that of the form
+  tail-form : (j : Bool) (k : ℕ) (M : List ℕ) → (let L = ell τ b / 8 in let C = masked E τ b N (take L M) in
+      Ends j k (tagBytes τ) (length M - L) → length (T τ Ta C) ≡ tagBytes τ →
+      C ++ tailAs j E (Δ₀ E τ b N) (T τ Ta C) (drop L M) k ≡ sealAs E τ b (formOf j) N Ta M)
+  unfolding sealAs tailAs
+  tail-form true k M h s =
       let L = ell τ b / 8 in
-      let C = masked E τ b N (take L m) in
-      tail-turn (λ Δ Tag M. separateTail E τ Δ Tag M ((length M - 1) / 16)) w v e le
-      ∙ ap (λ (n : ℕ). (C ++ separateTail E τ (Δ₀ E τ b N) (T τ Ta C) (drop L m) ((n - 1) / 16)) ++ drop (length m + tagBytes τ) d) (length-drop L m)
+      let C = masked E τ b N (take L M) in
+      ap (λ (i : ℕ). C ++ joinedTail E (Δ₀ E τ b N) (T τ Ta C) (drop L M) i) (joined-count k (length M - L) (tagBytes τ) (h .closes .0) (h .closes .1))
+  tail-form false k M h s =
+      let L = ell τ b / 8 in
+      let C = masked E τ b N (take L M) in
+      ap (λ (i : ℕ). C ++ separateTail E (8 * length (T τ Ta C)) (Δ₀ E τ b N) (T τ Ta C) (drop L M) i) (separate-count k (length M - L) (h .within) (h .closes))
+      ∙ ap (λ (x : List ℕ). C ++ x) (tag-alone E _ τ (Δ₀ E τ b N) (T τ Ta C) (drop L M) (fullBlocks L (length M)) (omega (arith, s)))
 
-  pub joined-turn : {m d out whole Δ : List ℕ} {l t : ℕ} (w : List ℕ) → Headed E τ b N Ta (masked E τ b N (take l m)) m d out whole Δ (length m + tagBytes τ) l t →
-      w ≡ joinedTail E Δ (take (16 - (16 - t)) (drop (16 - t) whole)) (take (length m - l) (drop l m)) ((length (take (length m - l) (drop l m)) - 1) / 16 - 1)
-      ++ drop (length (take (length m - l) (drop l m)) + length (take (16 - (16 - t)) (drop (16 - t) whole))) (take (length out - l) (drop l out)) →
+  pub long-turn : {M d out whole Δ : List ℕ} {l t k : ℕ} {j : Bool} (w : List ℕ) → Headed E τ b N Ta (masked E τ b N (take l M)) M d out whole Δ (length M + tagBytes τ) l t →
+      sealForm l t (length M) ≡ formOf j → Ends j k t (length M - l) →
+      (let tag = take (16 - (16 - t)) (drop (16 - t) whole) in
+      let rest = take (length M - l) (drop l M) in
+      w ≡ tailAs j E Δ tag rest k ++ drop (length rest + length tag) (take (length out - l) (drop l out))) →
       length w ≡ length (take (length out - l) (drop l out)) →
-      take l out ++ (w ++ drop (length out - l) (drop l out)) ≡ sealAs E τ b joined N Ta m ++ drop (length m + tagBytes τ) d
-  unfolding sealAs
-  joined-turn {m} {d} {out} {whole} {Δ} {l} {t} w v e le =
+      take l out ++ (w ++ drop (length out - l) (drop l out)) ≡ sealWith E τ b N Ta M ++ drop (length M + tagBytes τ) d
+  long-turn {M} {d} {out} {whole} {Δ} {l} {t} {k} {j} w v f ends e le =
       let L = ell τ b / 8 in
-      let C = masked E τ b N (take L m) in
-      let rest = take (length m - l) (drop l m) in
       let tag = take (16 - (16 - t)) (drop (16 - t) whole) in
-      let size : length tag ≡ tagBytes τ = part-sizes m whole l t (v .block) (omega arith) .1 ∙ v .tags in
-      tail-turn (λ Δ Tag M. joinedTail E Δ Tag M ((length M - 1) / 16 - 1)) w v
-      (e ∙ ap (λ (k : ℕ). joinedTail E Δ tag rest ((length rest - 1) / 16 - 1) ++ drop (length rest + k) (take (length out - l) (drop l out))) size) le
-      ∙ ap (λ (n : ℕ). (C ++ joinedTail E (Δ₀ E τ b N) (T τ Ta C) (drop L m) ((n - 1) / 16 - 1)) ++ drop (length m + tagBytes τ) d) (length-drop L m)
-
-  -- the sealing is in the form that the length takes
-  pub enc-form : (f : Form) (m z out : List ℕ) → sealForm (ell τ b / 8) (tagBytes τ) (length m) ≡ f → out ≡ sealAs E τ b f N Ta m ++ z → out ≡ sealWith E τ b N Ta m ++ z
-  unfolding sealWith
-  enc-form f m z out e w = w ∙ ap (λ (g : Form). sealAs E τ b g N Ta m ++ z) (sym e)
+      let rest = take (length M - l) (drop l M) in
+      let size : length tag ≡ tagBytes τ = tag-size whole t (v .whole-size) (omega (arith, v .tags, v .at-most)) ∙ v .tags in
+      let at-L : Ends j k (tagBytes τ) (length M - L) = subst (λ (x : ℕ). Ends j k x (length M - L)) (v .tags) (subst (λ (x : ℕ). Ends j k t (length M - x)) (v .bits) ends) in
+      let sized : length (T τ Ta (masked E τ b N (take L M))) ≡ tagBytes τ = subst (λ (x : ℕ). length (T τ Ta (masked E τ b N (take x M))) ≡ tagBytes τ) (v .bits) (v .size) in
+      tail-turn (λ Δ Tag M′. tailAs j E Δ Tag M′ k) w v
+      (e ∙ ap (λ (n : ℕ). tailAs j E Δ tag rest k ++ drop (length rest + n) (take (length out - l) (drop l out))) size) le
+      ∙ ap (λ (x : List ℕ). x ++ drop (length M + tagBytes τ) d) (tail-form j k M at-L sized ∙ form-is (formOf j) M (v .bits) (v .tags) f)

@@ -10,9 +10,11 @@ use lib.Seq.{take-all, take-at, take-add, drop-drop}
 use Rattle.octets.specs.Xor.{xors}
 use Rattle.octets.specs.Blocks.{block}
 use Rattle.octets.proofs.Xor.{xors-comm, append-xors}
+use Rattle.octets.specs.Strings.{over}
 use Rattle.cba_mode.specs.Sets.{tagBytes}
-use Rattle.cba_mode.specs.Offsets.{F, offset, pad, leading}
-use Rattle.cba_mode.specs.Seal.{checksum, cipherBlocks, joinedBlock, joinedLast, joinedEnd, joinedTail, lastBlock, lastOffset, separateTag, separateTail}
+use Rattle.cba_mode.specs.Offsets.{F, offset, leading}
+use Rattle.cba_mode.specs.Seal.{checksum, cipherBlocks, joinedBlock, joinedLast, joinedEnd, joinedTail, lastBlock, separateTag, separateTail}
+use Rattle.cba_sealing.specs.Calls.{tagBlock}
 use Rattle.octets.proofs.Parts.{then, to-end, size-of}
 
 module _ (E : List ℕ → List ℕ) where
@@ -87,32 +89,31 @@ module _ (E : List ℕ → List ℕ) where
   unfolding lastBlock
   last-block-turn Δ tag last d e out ee eo = eo ∙ ap (λ (x : List ℕ). xors last (take (length last) x) ++ drop (length last) d) ee
 
-  pub separate-end-turn : (τ : ℕ) (Δ S tag last d out e w : List ℕ) → length tag ≡ tagBytes τ → tagBytes τ ≤ 16 → length last + tagBytes τ ≤ length d →
-      out ≡ lastBlock E Δ tag last ++ drop (length last) d → length out ≡ length d →
-      e ≡ E (xors (xors (xors S (pad last)) (leading 16 tag)) (lastOffset Δ (length last))) → length e ≡ 16 →
-      w ≡ take (length tag) e ++ drop (length (take (length tag) e)) (take (length out - length last) (drop (length last) out)) →
+  pub separate-end-turn : (Δ S tag last d out e w : List ℕ) → length tag ≤ 16 → length last + length tag ≤ length d →
+      out ≡ lastBlock E Δ tag last ++ drop (length last) d → length out ≡ length d → e ≡ tagBlock E Δ tag S last → length e ≡ 16 →
+      w ≡ over (take (length tag) e) (take (length out - length last) (drop (length last) out)) →
       length w ≡ length (take (length out - length last) (drop (length last) out)) →
       take (length last) out ++ (w ++ drop (length out - length last) (drop (length last) out))
-      ≡ (lastBlock E Δ tag last ++ separateTag E τ Δ tag S last) ++ drop (length last + tagBytes τ) d
-  unfolding separateTag
-  separate-end-turn τ Δ S tag last d out e w lt t hd eo lo ee le ew lw =
-      let l : length (take (length tag) e) ≡ tagBytes τ = simp length-take (omega arith) in
-      then d (lastBlock E Δ tag last) out (take (length tag) e) w (length last) (tagBytes τ) eo lo hd
+      ≡ (lastBlock E Δ tag last ++ take (length tag) (tagBlock E Δ tag S last)) ++ drop (length last + length tag) d
+  separate-end-turn Δ S tag last d out e w t hd eo lo ee le ew lw =
+      let l : length (take (length tag) e) ≡ length tag = simp length-take (omega arith) in
+      then d (lastBlock E Δ tag last) out (take (length tag) e) w (length last) (length tag) eo lo hd
       (ew ∙ ap (λ (k : ℕ). take (length tag) e ++ drop k (take (length out - length last) (drop (length last) out))) l) lw
-      ∙ ap₂ (λ (n : ℕ) (x : List ℕ). (lastBlock E Δ tag last ++ take n x) ++ drop (length last + tagBytes τ) d) lt ee
+      ∙ ap (λ (x : List ℕ). (lastBlock E Δ tag last ++ take (length tag) x) ++ drop (length last + length tag) d) ee
 
-  pub separate-tail-turn : (τ : ℕ) (Δ tag text d out w Δₖ S : List ℕ) (k : ℕ) → let rest = take (length text - 16 * k) (drop (16 * k) text) in
-      16 * k < length text → length text ≤ 16 * suc k → length text + tagBytes τ ≤ length d → length out ≡ length d →
+  pub separate-tail-turn : (Δ tag text d out w Δₖ S : List ℕ) (k : ℕ) → let rest = take (length text - 16 * k) (drop (16 * k) text) in
+      16 * k < length text → length text ≤ 16 * suc k → length text + length tag ≤ length d → length out ≡ length d →
       Δₖ ≡ offset Δ k → S ≡ checksum text k → out ≡ cipherBlocks E Δ text k ++ drop (16 * k) d →
-      w ≡ (lastBlock E Δₖ tag rest ++ separateTag E τ Δₖ tag S rest) ++ drop (length rest + tagBytes τ) (take (length out - 16 * k) (drop (16 * k) out)) →
+      w ≡ (lastBlock E Δₖ tag rest ++ take (length tag) (tagBlock E Δₖ tag S rest)) ++ drop (length rest + length tag) (take (length out - 16 * k) (drop (16 * k) out)) →
       length w ≡ length (take (length out - 16 * k) (drop (16 * k) out)) →
-      take (16 * k) out ++ (w ++ drop (length out - 16 * k) (drop (16 * k) out)) ≡ separateTail E τ Δ tag text k ++ drop (length text + tagBytes τ) d
-  unfolding separateTail
-  separate-tail-turn τ Δ tag text d out w Δₖ S k h₁ h₂ hd lo eΔ eS eo ew lw =
+      take (16 * k) out ++ (w ++ drop (length out - 16 * k) (drop (16 * k) out)) ≡ separateTail E (8 * length tag) Δ tag text k ++ drop (length text + length tag) d
+  unfolding separateTail separateTag
+  separate-tail-turn Δ tag text d out w Δₖ S k h₁ h₂ hd lo eΔ eS eo ew lw =
       let rest = take (length text - 16 * k) (drop (16 * k) text) in
       let lr : length rest ≡ length text - 16 * k = ap length (to-end text (16 * k)) ∙ length-drop (16 * k) text in
       let er : rest ≡ block 16 text k = to-end text (16 * k) ∙ sym (take-all 16 (drop (16 * k) text) (simp length-drop (omega arith))) in
-      let all : 16 * k + (length rest + tagBytes τ) ≡ length text + tagBytes τ = omega (arith, lr) in
-      then d (cipherBlocks E Δ text k) out (lastBlock E Δₖ tag rest ++ separateTag E τ Δₖ tag S rest) w (16 * k) (length rest + tagBytes τ)
-      eo lo (omega (arith, lr)) ew lw
-      ∙ ap₂ (λ (x : List ℕ) (n : ℕ). (cipherBlocks E Δ text k ++ x) ++ drop n d) (rw (eΔ, eS, er) refl) all
+      let all : 16 * k + (length rest + length tag) ≡ length text + length tag = omega (arith, lr) in
+      let size : length tag ≡ tagBytes (8 * length tag) = omega arith in
+      let last : List ℕ → ℕ → List ℕ = λ x n. lastBlock E Δₖ tag x ++ take n (tagBlock E Δₖ tag S x) in
+      then d (cipherBlocks E Δ text k) out (last rest (length tag)) w (16 * k) (length rest + length tag) eo lo (omega (arith, lr)) ew lw
+      ∙ ap₂ (λ (x : List ℕ) (n : ℕ). (cipherBlocks E Δ text k ++ x) ++ drop n d) (ap₂ last er size ∙ rw (eΔ, eS) refl) all

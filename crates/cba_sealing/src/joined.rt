@@ -1,18 +1,15 @@
-// The joined form after C_0: the last block and the tag share one block, and the sum follows it.
+// The joined form's end: the last block and the tag share one block, and the sum follows it.
 use crate::pieces::Running;
-use crate::pieces::full_blocks;
 use crate::pieces::mask;
 use cba_steps::pad;
 use cba_steps::step;
 ghost use mathlib.Core.Path.{_≡_};
-ghost use mathlib.Core.List.{_++_};
-ghost use Prim.Native.Nat.{_+_, _-_, _*_, _/_, _≤_, _<_};
-ghost use lib.ListN.{length, take, drop};
-ghost use Rattle.octets.specs.Xor.{xors};
+ghost use Prim.Native.Nat.{_+_, _≤_};
+ghost use lib.ListN.{length};
 ghost use Rattle.fips197.specs.Cipher.{cipher};
 ghost use Rattle.aes.specs.Context.{Encrypts};
-ghost use Rattle.cba_mode.specs.Offsets.{F};
-ghost use Rattle.cba_mode.specs.Seal.{joinedBlock, joinedLast, joinedEnd, joinedTail};
+ghost use Rattle.cba_mode.specs.Seal.{joinedLast};
+ghost use Rattle.cba_sealing.specs.Calls.{JoinedBlock, JoinedEnd};
 
 // C_{m-1} over the first bytes of out, from M_{m-1}, M_m and T.
 fn joined_block(
@@ -25,8 +22,9 @@ fn joined_block(
     out: &mut [u8],
 )
     requires { ⌜ Encrypts (now key) (now ctx) ⌝ }
-    requires { ⌜ (length (now last) + length (now tag) ≤ 16) × (length (now last) + length (now tag) ≤ length (now out)) ⌝ }
-    ensures { λ _. ⌜ now (out .exit) ≡ joinedBlock (cipher (now (key .entry))) offset m (now (last .entry) ++ now (tag .entry)) ++ drop (length (now (last .entry)) + length (now (tag .entry))) (now (out .entry)) ⌝ }
+    requires { ⌜ length (now last) + length (now tag) ≤ 16 ⌝ }
+    requires { ⌜ length (now last) + length (now tag) ≤ length (now out) ⌝ }
+    ensures { λ _. ⌜ JoinedBlock (now (key .entry)) offset (now (tag .entry)) m (now (last .entry)) (now (out .entry)) (now (out .exit)) ⌝ }
 {
     let e = aes::encrypt(key, ctx, octets::xor_block(m, offset));
     let n = last.len();
@@ -50,10 +48,19 @@ fn joined_last(
 }
 
 // C_{m-1} C_m over the first bytes of out, from M_{m-1} M_m after the blocks before them.
-fn joined_end(key: &[u8], ctx: &aes::Context, tag: &[u8], s: Running, rest: &[u8], out: &mut [u8])
+pub fn joined_end(
+    key: &[u8],
+    ctx: &aes::Context,
+    tag: &[u8],
+    s: Running,
+    rest: &[u8],
+    out: &mut [u8],
+)
     requires { ⌜ Encrypts (now key) (now ctx) ⌝ }
-    requires { ⌜ (16 ≤ length (now rest)) × (length (now rest) + length (now tag) ≤ 32) × (length (now rest) + length (now tag) ≤ length (now out)) ⌝ }
-    ensures { λ _. ⌜ now (out .exit) ≡ joinedEnd (cipher (now (key .entry))) (F 2 2 (s .offset)) (xors (s .sum) (take 16 (now (rest .entry)))) (take 16 (now (rest .entry))) (drop 16 (now (rest .entry)) ++ now (tag .entry)) ++ drop (length (now (rest .entry)) + length (now (tag .entry))) (now (out .entry)) ⌝ }
+    requires { ⌜ 16 ≤ length (now rest) ⌝ }
+    requires { ⌜ length (now rest) + length (now tag) ≤ 32 ⌝ }
+    requires { ⌜ length (now rest) + length (now tag) ≤ length (now out) ⌝ }
+    ensures { λ _. ⌜ JoinedEnd (now (key .entry)) (now (tag .entry)) s (now (rest .entry)) (now (out .entry)) (now (out .exit)) ⌝ }
 {
     let before = s.offset;
     let offset = step(2, 2, before);
@@ -63,22 +70,4 @@ fn joined_end(key: &[u8], ctx: &aes::Context, tag: &[u8], s: Running, rest: &[u8
     let n = rest.len() - 16 + tag.len();
     let c = joined_last(key, ctx, offset, octets::xor_block(sum, m), &out[..n]);
     octets::put(&mut out[n..], &c);
-}
-
-// C_1 .. C_m over the first bytes of out, of what follows M_0.
-pub fn joined_tail(
-    key: &[u8],
-    ctx: &aes::Context,
-    tag: &[u8],
-    offset: [u8; 16],
-    text: &[u8],
-    out: &mut [u8],
-)
-    requires { ⌜ Encrypts (now key) (now ctx) ⌝ }
-    requires { ⌜ (16 < length (now text)) × (length (now text) - 16 * ((length (now text) - 1) / 16) + length (now tag) ≤ 16) × (length (now text) + length (now tag) ≤ length (now out)) ⌝ }
-    ensures { λ _. ⌜ now (out .exit) ≡ joinedTail (cipher (now (key .entry))) offset (now (tag .entry)) (now (text .entry)) ((length (now (text .entry)) - 1) / 16 - 1) ++ drop (length (now (text .entry)) + length (now (tag .entry))) (now (out .entry)) ⌝ }
-{
-    let k = (text.len() - 1) / 16 - 1;
-    let s = full_blocks(key, ctx, text, k, offset, out);
-    joined_end(key, ctx, tag, s, &text[16 * k..], &mut out[16 * k..]);
 }

@@ -6,12 +6,9 @@ mod pieces;
 mod separate;
 
 pub use begin::Begun;
-pub use begin::First;
 pub use begin::cover;
-pub use begin::first_bytes;
-pub use begin::tag_bytes;
-pub use begin::with_first;
-pub use forms::seal_message;
+pub use begin::full_tag;
+pub use forms::enc;
 pub use forms::short_tag;
 pub use pieces::Running;
 pub use pieces::mask;

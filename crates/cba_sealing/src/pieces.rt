@@ -1,31 +1,35 @@
 // Pieces that the forms of sealing are made of.
+use cba_steps::Parameters;
 use cba_steps::doubled;
 use cba_steps::split;
 use cba_steps::whole;
 ghost use mathlib.Core.Path.{_≡_};
 ghost use mathlib.Core.List.{_++_, _∷_};
 ghost use Prim.Native.Nat.{_+_, _*_, _≤_};
-ghost use lib.ListN.{length, take, drop};
+ghost use lib.ListN.{length, drop};
 ghost use Rattle.octets.specs.Xor.{xors};
 ghost use Rattle.fips197.specs.Cipher.{cipher};
 ghost use Rattle.aes.specs.Context.{Encrypts};
-ghost use Rattle.cba_mode.specs.Offsets.{offset, leading};
-ghost use Rattle.cba_mode.specs.Seal.{checksum, cipherBlocks};
+ghost use Rattle.cba_mode.specs.Offsets.{leading};
+ghost use Rattle.cba_sealing.specs.Calls.{maskedBy, SealedBlocks};
 
 // The block that R is the encryption of.
-pub fn nonce_block(tag: u8, capacity: u8, nonce: &[u8]) -> [u8; 16]
+pub fn nonce_block(p: Parameters, nonce: &[u8]) -> [u8; 16]
     requires { ⌜ length (now nonce) ≡ 12 ⌝ }
-    ensures { λ r. ⌜ r ≡ 0 ∷ 0 ∷ tag ∷ capacity ∷ now (nonce .entry) ⌝ }
+    ensures { λ r. ⌜ r ≡ 0 ∷ 0 ∷ p .tau ∷ p .capacity ∷ now (nonce .entry) ⌝ }
 {
-    let mut r = [0, 0, tag, capacity, 0, 0, 0, 0, 0, 0, 0, 0, 0, 0, 0, 0];
+    let tau = p.tau;
+    let b = p.capacity;
+    let mut r = [0, 0, tau, b, 0, 0, 0, 0, 0, 0, 0, 0, 0, 0, 0, 0];
     octets::put(&mut r[4..], nonce);
     r
 }
 
 // A string plus the bytes of a block from a place on, over the first bytes of out.
 pub fn mask(block: [u8; 16], at: usize, s: &[u8], out: &mut [u8])
-    requires { ⌜ (at + length (now s) ≤ 16) × (length (now s) ≤ length (now out)) ⌝ }
-    ensures { λ _. ⌜ now (out .exit) ≡ xors (now (s .entry)) (take (length (now (s .entry))) (drop at block)) ++ drop (length (now (s .entry))) (now (out .entry)) ⌝ }
+    requires { ⌜ at + length (now s) ≤ 16 ⌝ }
+    requires { ⌜ length (now s) ≤ length (now out) ⌝ }
+    ensures { λ _. ⌜ now (out .exit) ≡ maskedBy at block (now (s .entry)) ++ drop (length (now (s .entry))) (now (out .entry)) ⌝ }
 {
     let mut i = 0;
     while i < s.len() {
@@ -59,24 +63,25 @@ pub fn sealed_block(key: &[u8], ctx: &aes::Context, m: [u8; 16], offset: [u8; 16
     octets::xor_block(aes::encrypt(key, ctx, octets::xor_block(m, offset)), offset)
 }
 
-// The first k blocks of a text sealed over the first bytes of out, from the offset before them.
+// The first k blocks of a message sealed over the first bytes of out, from the offset before them.
 pub fn full_blocks(
     key: &[u8],
     ctx: &aes::Context,
-    text: &[u8],
+    message: &[u8],
     k: usize,
     start: [u8; 16],
     out: &mut [u8],
 ) -> Running
     requires { ⌜ Encrypts (now key) (now ctx) ⌝ }
-    requires { ⌜ (16 * k ≤ length (now text)) × (16 * k ≤ length (now out)) ⌝ }
-    ensures { λ r. ⌜ (r .offset ≡ offset start k) × (r .sum ≡ checksum (now (text .entry)) k) × (now (out .exit) ≡ cipherBlocks (cipher (now (key .entry))) start (now (text .entry)) k ++ drop (16 * k) (now (out .entry))) ⌝ }
+    requires { ⌜ 16 * k ≤ length (now message) ⌝ }
+    requires { ⌜ 16 * k ≤ length (now out) ⌝ }
+    ensures { λ r. ⌜ SealedBlocks (now (key .entry)) start (now (message .entry)) (now (out .entry)) k r (now (out .exit)) ⌝ }
 {
     let mut h = split(start);
     let mut sum = [0u8; 16];
     let mut i = 0;
     while i < k {
-        let m = octets::first_block(&text[16 * i..]);
+        let m = octets::first_block(&message[16 * i..]);
         let next = doubled(h);
         let offset = whole(next);
         let c = sealed_block(key, ctx, m, offset);

@@ -6,6 +6,7 @@ use crate::offsets::split;
 use crate::offsets::start;
 use crate::offsets::step;
 use crate::offsets::whole;
+use crate::parameters::Parameters;
 ghost use mathlib.Core.Path.{_≡_};
 ghost use mathlib.Core.List.{_++_};
 ghost use Prim.Native.Nat.{_≤_, _<_};
@@ -70,13 +71,15 @@ fn walk(key: &[u8], ctx: &aes::Context, sum: [u8; 16], a: u64, b: u64, rest: &[u
 
 // The sum whose first τ bits are T_A, of at most 4,096 bytes: the walk is a recursion, and its stack
 // has to have an end.
-pub fn data_hash(key: &[u8], ctx: &aes::Context, tag: u8, capacity: u8, header: &[u8]) -> [u8; 16]
+pub fn data_hash(key: &[u8], ctx: &aes::Context, p: Parameters, ad: &[u8]) -> [u8; 16]
     requires { ⌜ Encrypts (now key) (now ctx) ⌝ }
-    requires { ⌜ length (now header) ≤ 4096 ⌝ }
-    ensures { λ r. ⌜ r ≡ dataHash (cipher (now (key .entry))) tag capacity (now (header .entry)) ⌝ }
+    requires { ⌜ length (now ad) ≤ 4096 ⌝ }
+    ensures { λ r. ⌜ r ≡ dataHash (cipher (now (key .entry))) (p .tau) (p .capacity) (now (ad .entry)) ⌝ }
 {
-    let first = [tag, capacity, 0, 0, 0, 0, 0, 0, 0, 0, 0, 0, 0, 0, 0, 0];
+    let tau = p.tau;
+    let b = p.capacity;
+    let first = [tau, b, 0, 0, 0, 0, 0, 0, 0, 0, 0, 0, 0, 0, 0, 0];
     let l = aes::encrypt(key, ctx, first);
     let h = split(start(l, 0));
-    walk(key, ctx, [0; 16], h.a, h.b, header)
+    walk(key, ctx, [0; 16], h.a, h.b, ad)
 }

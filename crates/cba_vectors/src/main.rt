@@ -31,10 +31,7 @@ fn print_data_tag(set: u8, key: &[u8], ad: &[u8]) {
     if aes::is_key(key) {
         let mut ctx = aes::blank();
         aes::fill(key, &mut ctx);
-        print_tag(
-            cba_steps::data_hash(key, &ctx, p.tau, p.capacity, ad),
-            p.tau,
-        );
+        print_tag(cba_steps::data_hash(key, &ctx, p, ad), p.tau);
     }
 }
 

@@ -13,7 +13,7 @@ use Rattle.cba_mode.specs.Charge.{charge}
 use Rattle.cba_rules.specs.Checks.{setTag, badKey, badNonce, longData, messageRows}
 use Rattle.cba_rules.specs.Refusals.{SealCall}
 use Rattle.cba_rules.proofs.SetLaws.{key-most}
-use Rattle.plain.specs.declared.sets.Parameters.{Parameters}
+use Rattle.cba_steps.specs.declared.parameters.Parameters.{Parameters}
 use Rattle.plain.specs.declared.sets.Set.the-variants.{Known, Unknown}
 use Rattle.plain.specs.Lookup.{lookupOf}
 use Rattle.plain.proofs.SetLaws.{is-known, is-unknown, its-key, its-tag}

@@ -2,7 +2,7 @@
 use crate::checks::above;
 use crate::checks::charge;
 use crate::checks::fits;
-use plain::Parameters;
+use cba_steps::Parameters;
 use plain::Set;
 use plain::ad_check;
 use plain::first_of;

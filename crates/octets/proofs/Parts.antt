@@ -38,6 +38,9 @@ drop-put s d k h =
 pub to-end : (s : List ℕ) (n : ℕ) → take (length s - n) (drop n s) ≡ drop n s
 to-end s n = take-all (length s - n) (drop n s) (simp length-drop (omega arith))
 
+pub rest-size : (s : List ℕ) (n : ℕ) → length (take (length s - n) (drop n s)) ≡ length s - n
+rest-size s n = ap length (to-end s n) ∙ length-drop n s
+
 -- a first write of n bytes has n bytes
 pub size-of : (d e out : List ℕ) (n : ℕ) → out ≡ e ++ drop n d → length out ≡ length d → n ≤ length d → length e ≡ n
 size-of d e out n w l h = omega (arith, ap length w, length-append e (drop n d), length-drop n d)

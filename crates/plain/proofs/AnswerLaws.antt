@@ -21,7 +21,7 @@ use Rattle.cba_rules.specs.Checks.{setTag, badSet, badKey, badNonce, longData, 
 use Rattle.cba_rules.specs.Refusals.{sealing, opening, sealAnswer, openAnswer, sealLeaves, sealOutput, openLeaves, openOutput, SealCall, OpenCall}
 use Rattle.cba_rules.proofs.SetLaws.{set-fits, set-key}
 use Rattle.cba_rules.proofs.RefusalLaws.{Common, Opens, seal-refusals, seal-accepted, open-refusals, open-checked, open-parts, open-decides}
-use Rattle.plain.specs.declared.sets.Parameters.{Parameters}
+use Rattle.cba_steps.specs.declared.parameters.Parameters.{Parameters}
 use Rattle.plain.specs.declared.sets.Set.the-variants.{Known, Unknown}
 use Rattle.plain.specs.Lookup.{lookupOf}
 use Rattle.plain.specs.Accepted.{Sealable, SealedBy, Openable, OpenedBy}
@@ -57,16 +57,14 @@ module _ (set : ℕ) (p : Parameters) (known : lookupOf set ≡ Known p) (key N 
       ap₂ (λ (x y : ℕ). answer (sealChecks (x / 8) (tagBytes y) (length key) (length N) (length A) (length M) (length out))) (v .0) (v .1)
       ∙ rw (is-known set p known) refl
 
-  pub seal-ready : sealAnswer set key N A M out ≡ 0 → Sealable p key (length N) (length A) (length M) (length out)
+  pub seal-ready : sealAnswer set key N A M out ≡ 0 → Sealable p key N A M out
   seal-ready e =
       let a = seal-accepted set key N A M out e in
       let v = its-values set p known in
       record {
         is-key = set-key set key (a .0 .is-set) (a .0 .key-length);
-        fits = rw (v .1, v .2) (set-fits set (a .0 .is-set));
-        nonce-length = a .0 .nonce-length;
         data-limit = a .0 .data-limit;
-        room = rw (v .1) (a .1 .room);
+        seals = record { given = record { fits = rw (v .1, v .2) (set-fits set (a .0 .is-set)); nonce = a .0 .nonce-length }; room = rw (v .1) (a .1 .room) };
       }
 
   -- where the code wrote ENC
@@ -114,17 +112,19 @@ module _ (set : ℕ) (p : Parameters) (known : lookupOf set ≡ Known p) (key N 
       (e ∙ b ∙ sym (open-parts set key N A C out ∙ rw (ne-eqb (answer (badSet set ∷ openChecks (keyBytes set) (setTag set) (length key) (length N) (length A) (length C) (length out))) 0 (λ z. n (e ∙ b ∙ z))) refl))
       n (λ z. not-eight (sym e ∙ z))
 
-  pub open-ready : answer checks ≡ 0 → Openable p key (length N) (length A) (length C) (length out)
+  pub open-ready : answer checks ≡ 0 → Openable p key N A C out
   open-ready e =
       let a = open-checked set key N A C out (sym before-false ∙ e) in
       let v = its-values set p known in
       record {
         is-key = set-key set key (a .0 .is-set) (a .0 .key-length);
-        fits = rw (v .1, v .2) (set-fits set (a .0 .is-set));
-        nonce-length = a .0 .nonce-length;
         data-limit = a .0 .data-limit;
-        least = rw (v .1) (a .1 .least);
-        room = rw (v .1) (omega (arith, a .1 .room));
+        opens =
+            record {
+              given = record { fits = rw (v .1, v .2) (set-fits set (a .0 .is-set)); nonce = a .0 .nonce-length };
+              least = rw (v .1) (a .1 .least);
+              room = rw (v .1) (omega (arith, a .1 .room));
+            };
       }
 
   -- the code's decision b, where it wrote the message or zeros

@@ -9,7 +9,7 @@ use lib.Dec.{T, leb}
 use lib.ListN.{getD}
 use borrow.Author.Tests.{lt-leb, le-leb}
 use Rattle.octets.proofs.Tests.{agree, same}
-use Rattle.plain.specs.declared.sets.Parameters.{Parameters}
+use Rattle.cba_steps.specs.declared.parameters.Parameters.{Parameters}
 use Rattle.plain.specs.declared.sets.Set.{Set}
 use Rattle.plain.specs.declared.sets.Set.the-variants.{Known, Unknown}
 use Rattle.cba_mode.specs.Sets.{isSet, column, keyBytes, tagBytes}

@@ -7,25 +7,22 @@ use Prim.Native.Nat.{ℕ, _+_, _-_, _≤_}
 use lib.ListN.{length, drop}
 use Rattle.fips197.specs.Schedule.{isKey}
 use Rattle.fips197.specs.Cipher.{cipher, invCipher}
-use Rattle.cba_mode.specs.Sets.{Fits, tagBytes}
+use Rattle.cba_mode.specs.Sets.{tagBytes}
 use Rattle.cba_mode.specs.Seal.{ENC}
 use Rattle.cba_mode.specs.Open.{DEC, Answered}
-use Rattle.plain.specs.declared.sets.Parameters.{Parameters}
+use Rattle.cba_sealing.specs.Calls.{Seals}
+use Rattle.cba_opening.specs.Calls.{Opens}
+use Rattle.cba_steps.specs.declared.parameters.Parameters.{Parameters}
 
-pub record Sealable (p : Parameters) (key : List ℕ) (nonce ad message out : ℕ) : Type 0 where
+pub record Sealable (p : Parameters) (key N A M out : List ℕ) : Type 0 where
   pub is-key : isKey key ≡ true
-  pub fits : Fits (p .tau) (p .capacity)
-  pub nonce-length : nonce ≡ 12
-  pub data-limit : ad ≤ 4096
-  pub room : message + tagBytes (p .tau) ≤ out
+  pub data-limit : length A ≤ 4096
+  pub seals : Seals p N M out
 
-pub record Openable (p : Parameters) (key : List ℕ) (nonce ad ciphertext out : ℕ) : Type 0 where
+pub record Openable (p : Parameters) (key N A C out : List ℕ) : Type 0 where
   pub is-key : isKey key ≡ true
-  pub fits : Fits (p .tau) (p .capacity)
-  pub nonce-length : nonce ≡ 12
-  pub data-limit : ad ≤ 4096
-  pub least : tagBytes (p .tau) ≤ ciphertext
-  pub room : ciphertext ≤ out + tagBytes (p .tau)
+  pub data-limit : length A ≤ 4096
+  pub opens : Opens p N C out
 
 -- ENC over the first bytes of out
 abbrev pub SealedBy : Parameters → List ℕ → List ℕ → List ℕ → List ℕ → List ℕ → List ℕ → Type 0

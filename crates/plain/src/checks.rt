@@ -1,6 +1,6 @@
 // The checks on lengths, in the groups that several calls share: each answers as its rows do. A
 // call puts its groups together by first_of, in the order of its rows.
-use crate::sets::Parameters;
+use cba_steps::Parameters;
 ghost use mathlib.Core.Path.{_≡_};
 ghost use mathlib.Core.List.{[], _∷_};
 ghost use Prim.Native.Nat.{_/_};

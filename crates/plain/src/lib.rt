@@ -13,6 +13,5 @@ pub use checks::message_check;
 pub use checks::nonce_check;
 pub use open::open_plain;
 pub use seal::seal_plain;
-pub use sets::Parameters;
 pub use sets::Set;
 pub use sets::lookup;

@@ -4,14 +4,13 @@ use crate::checks::ciphertext_check;
 use crate::checks::first_of;
 use crate::checks::key_check;
 use crate::checks::nonce_check;
-use crate::sets::Parameters;
 use crate::sets::Set;
 use crate::sets::lookup;
-use cba_opening::open_text;
+use cba_opening::dec;
+use cba_steps::Parameters;
 use cba_steps::data_hash;
 ghost use mathlib.Core.Path.{_≡_};
 ghost use Prim.Native.Nat.{_-_, _/_};
-ghost use lib.ListN.{length};
 ghost use Rattle.answers.specs.Rows.{answer};
 ghost use Rattle.cba_mode.specs.Sets.{tagBytes};
 ghost use Rattle.cba_rules.specs.Checks.{openChecks};
@@ -47,25 +46,15 @@ fn open_accepted(
     ciphertext: &[u8],
     out: &mut [u8],
 ) -> bool
-    requires { ⌜ Openable p (now key) (length (now nonce)) (length (now ad)) (length (now ciphertext)) (length (now out)) ⌝ }
+    requires { ⌜ Openable p (now key) (now nonce) (now ad) (now ciphertext) (now out) ⌝ }
     ensures { λ r. ⌜ OpenedBy p (now (key .entry)) (now (nonce .entry)) (now (ad .entry)) (now (ciphertext .entry)) r (now (out .entry)) (now (out .exit)) ⌝ }
 {
     let mut ctx = aes::blank();
     aes::fill(key, &mut ctx);
     let mut inv = aes::blank_inverse();
     aes::fill_inverse(key, &ctx, &mut inv);
-    let hash = data_hash(key, &ctx, p.tau, p.capacity, ad);
-    open_text(
-        key,
-        &ctx,
-        &inv,
-        p.tau,
-        p.capacity,
-        nonce,
-        hash,
-        ciphertext,
-        out,
-    )
+    let sum = data_hash(key, &ctx, p, ad);
+    dec(key, &ctx, &inv, p, nonce, sum, ciphertext, out)
 }
 
 // The checks after the first, for a set that is known, and the opening.

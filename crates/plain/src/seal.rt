@@ -4,14 +4,13 @@ use crate::checks::first_of;
 use crate::checks::key_check;
 use crate::checks::message_check;
 use crate::checks::nonce_check;
-use crate::sets::Parameters;
 use crate::sets::Set;
 use crate::sets::lookup;
-use cba_sealing::seal_message;
+use cba_sealing::enc;
+use cba_steps::Parameters;
 use cba_steps::data_hash;
 ghost use mathlib.Core.Path.{_≡_};
 ghost use Prim.Native.Nat.{_/_};
-ghost use lib.ListN.{length};
 ghost use Rattle.answers.specs.Rows.{answer};
 ghost use Rattle.cba_mode.specs.Sets.{tagBytes};
 ghost use Rattle.cba_rules.specs.Checks.{sealChecks};
@@ -40,15 +39,15 @@ fn seal_checks(
 // The sealing of an input that no check refuses: the key schedule, once, the walk over
 // the data, and ENC.
 fn seal_accepted(p: Parameters, key: &[u8], nonce: &[u8], ad: &[u8], message: &[u8], out: &mut [u8])
-    requires { ⌜ Sealable p (now key) (length (now nonce)) (length (now ad)) (length (now message)) (length (now out)) ⌝ }
+    requires { ⌜ Sealable p (now key) (now nonce) (now ad) (now message) (now out) ⌝ }
     ensures { λ _. ⌜
         SealedBy p (now (key .entry)) (now (nonce .entry)) (now (ad .entry)) (now (message .entry)) (now (out .entry)) (now (out .exit))
         ⌝ }
 {
     let mut ctx = aes::blank();
     aes::fill(key, &mut ctx);
-    let hash = data_hash(key, &ctx, p.tau, p.capacity, ad);
-    seal_message(key, &ctx, p.tau, p.capacity, nonce, hash, message, out);
+    let sum = data_hash(key, &ctx, p, ad);
+    enc(key, &ctx, p, nonce, sum, message, out);
 }
 
 // The checks after the first, for a set that is known, and the sealing.

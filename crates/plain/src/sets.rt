@@ -1,31 +1,7 @@
 // The parameter sets.
+use cba_steps::Parameters;
 ghost use mathlib.Core.Path.{_≡_};
-ghost use Prim.Native.Nat.{_/_};
-ghost use Rattle.cba_mode.specs.Sets.{tagBytes};
 ghost use Rattle.plain.specs.Lookup.{lookupOf};
-
-// A row: key bits, tag bits τ, capacity exponent b.
-pub struct Parameters {
-    pub key: u16,
-    pub tau: u8,
-    pub capacity: u8,
-}
-
-impl Parameters {
-    // How many bytes a key has.
-    pub fn key_bytes(self) -> usize
-        ensures { λ r. ⌜ r ≡ self .key / 8 ⌝ }
-    {
-        (self.key / 8) as usize
-    }
-
-    // t, how many bytes a tag has.
-    pub fn tag_bytes(self) -> usize
-        ensures { λ r. ⌜ r ≡ tagBytes (self .tau) ⌝ }
-    {
-        (self.tau / 8) as usize
-    }
-}
 
 // What a set number yields: its parameters, or none where it is not 1 to 10.
 pub enum Set {
@@ -33,6 +9,7 @@ pub enum Set {
     Unknown,
 }
 
+// Key bits, τ and b of each set, from 1 on.
 const SETS: [[u16; 3]; 10] = [
     [128, 32, 16],
     [128, 32, 32],

@@ -1,4 +1,4 @@
--- `opening::blocks::opened_block` meets its contract, by those of the functions that it calls.
+-- `cba_opening::blocks::opened_block` meets its contract, by those of the functions that it calls.
 -- Assumes nothing.
 use mathlib.Core.Path.{refl, ap, ap₂, _∙_}
 use Rattle.octets.specs.Xor.{xors}

@@ -1,22 +1,22 @@
--- `opening::blocks::plain_blocks` meets its contract: after i turns i blocks are opened.
+-- `cba_opening::blocks::plain_blocks` meets its contract: after i turns i blocks are opened.
 -- Assumes nothing.
 use mathlib.Core.Path.{_≡_}
 use Prim.Native.Nat.{_-_}
 use lib.ListN.{length}
 use borrow.Author.Needs.{needs}
-use Rattle.fips197.specs.Cipher.{cipher, invCipher}
+use Rattle.fips197.specs.Cipher.{invCipher}
 use Rattle.cba_steps.specs.Halves.{halvesOf}
 use Rattle.cba_sealing.proofs.PieceLaws.{Turned, sum-none, turned-none, turned-once, turned-all}
-use Rattle.cba_opening.proofs.BlockLaws.{Sums, plain-sum, plain-all}
+use Rattle.cba_opening.proofs.BlockLaws.{Sums, plain-sum}
 use Rattle.cba_opening.proofs.blocks.plain_blocks.Statement.{statement}
 use Rattle.cba_opening.proofs.blocks.plain_blocks.Tie as tie
 
 abbrev Inv-loop : tie.InvT-loop
-Inv-loop key inv text k out₀ h₀ sum₀ i₀ out h sum i =
-    Turned (invCipher key) (halvesOf h₀) text out₀ (Sums (invCipher key) (halvesOf h₀) text) k i (halvesOf h) sum out
+Inv-loop key inv ciphertext k out₀ h₀ sum₀ i₀ out h sum i =
+    Turned (invCipher key) (halvesOf h₀) ciphertext out₀ (Sums (invCipher key) (halvesOf h₀) ciphertext) k i (halvesOf h) sum out
 
 abbrev μ-loop : tie.MeasureT-loop
-μ-loop key inv text k out₀ h₀ sum₀ i₀ out h sum i = k - i
+μ-loop key inv ciphertext k out₀ h₀ sum₀ i₀ out h sum i = k - i
 
 again : tie.Need-loop-again Inv-loop μ-loop
 again c =
@@ -36,9 +36,7 @@ again c =
 returns : tie.Need-returns Inv-loop μ-loop
 returns c =
     let at-loop = c .before .before in
-    let a = at-loop .before .before .before .before .before .args in
-    plain-all (cipher (a .key .now)) (invCipher (a .key .now)) (a .start) (a .text .now) (a .out .now) _ _ _ (a .k)
-    (turned-all (rw (at-loop .before .split .ensures) at (at-loop .loop .inv)) (c .before .loop-test .left) _ (c .whole2 .ensures))
+    turned-all (rw (at-loop .before .split .ensures) at (at-loop .loop .inv)) (c .before .loop-test .left) _ (c .whole2 .ensures)
 
 pub plain-blocks-spec : {M : Type 1} → statement M
 plain-blocks-spec =

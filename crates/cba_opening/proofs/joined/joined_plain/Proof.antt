@@ -1,4 +1,4 @@
--- `opening::joined::joined_plain` meets its contract.
+-- `cba_opening::joined::joined_plain` meets its contract.
 -- Assumes nothing.
 use mathlib.Core.Path.{ap, ap₂, _∙_}
 use Rattle.octets.specs.Xor.{xors}

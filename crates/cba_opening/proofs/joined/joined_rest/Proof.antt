@@ -1,4 +1,4 @@
--- `opening::joined::joined_rest` meets its contract.
+-- `cba_opening::joined::joined_rest` meets its contract.
 -- Assumes nothing.
 use mathlib.Core.Path.{ap, _∙_}
 use Rattle.octets.specs.Xor.{xors}
@@ -13,12 +13,7 @@ use Rattle.cba_opening.proofs.joined.joined_rest.Tie as tie
 mask-requires : tie.Need-mask-requires
 mask-requires c κs =
     let h = c .before .before .before .before .before .before .before .before .before .pre .1 in
-    (simp length-take (omega (arith, h .1)), simp length-take (omega (arith, h .0, h .2)))
-
-encrypt-requires : tie.Need-encrypt-requires
-encrypt-requires c κs =
-    let p = c .before .before .before .before .before .before .pre in
-    p .0
+    (simp length-take (omega (arith, h .1 .0)), simp length-take (omega (arith, h .0, h .1 .1)))
 
 returns : tie.Need-returns
 returns c =
@@ -27,7 +22,7 @@ returns c =
     let at-encrypt = c .before .before .before .before .before .before in
     let block = at-encrypt .encrypt .ensures ∙ ap (cipher _) (at-encrypt .before .xor-block .ensures ∙ ap (xors _) (at-encrypt .before .before .step .ensures)) in
     joined-rest-turn (cipher (a .key .now)) (invCipher (a .key .now)) (a .offset) (a .m) (a .c .now) (a .tag .now) (a .out .now) (c .before .before .before .before .before .before .encrypt .result) _ _
-    block (c .before .before .before .before .before .before .encrypt .ok .1 .0 .1) (h .1) (c .before .before .before .mask .ensures) (c .joined-tag .ensures)
+    block (c .before .before .before .before .before .before .encrypt .ok .1 .0 .1) (h .1 .0) (c .before .before .before .mask .ensures) (c .joined-tag .ensures)
 
 pub joined-rest-spec : {M : Type 1} → statement M
-joined-rest-spec = tie.close (tie.spec (λ c κs. search needs) (λ c κs. search needs) encrypt-requires (λ c. search needs) (λ c. simp length-take (omega arith)) mask-requires (λ c κs. search needs) (λ c. search needs) returns)
+joined-rest-spec = tie.close (tie.spec (λ c κs. search needs) (λ c κs. search needs) (λ c κs. search needs) (λ c. search needs) (λ c. simp length-take (omega arith)) mask-requires (λ c κs. search needs) (λ c. search needs) returns)

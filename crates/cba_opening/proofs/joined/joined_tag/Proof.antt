@@ -1,4 +1,4 @@
--- `opening::joined::joined_tag` meets its contract.
+-- `cba_opening::joined::joined_tag` meets its contract.
 -- Assumes nothing.
 use mathlib.Core.Path.{_≡_}
 use native.Mathlib.Omega.{arith}

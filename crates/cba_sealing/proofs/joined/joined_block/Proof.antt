@@ -1,4 +1,4 @@
--- `sealing::joined::joined_block` meets its contract.
+-- `cba_sealing::joined::joined_block` meets its contract.
 -- Assumes nothing.
 use mathlib.Core.Path.{ap, _∙_}
 use Rattle.fips197.specs.Cipher.{cipher}

@@ -1,4 +1,4 @@
--- `sealing::joined::joined_end` meets its contract.
+-- `cba_sealing::joined::joined_end` meets its contract.
 -- Assumes nothing.
 use mathlib.Core.Path.{_≡_}
 use native.Mathlib.Omega.{arith}
@@ -28,7 +28,7 @@ returns c =
     let h = at-block .before .before .before .before .before .before .before .before .before .before .pre .1 in
     let at-first = at-block .before .before .before in
     joined-end-turn (cipher (a .key .now)) (a .s .offset) (a .s .sum) _ _ _ (a .rest .now) (a .tag .now) (a .out .now) (at-block .joined-block .last .1 .1 .1 .1 .1 .1 .0)
-    (c .before .before .before .before .before .joined-last .result) (c .before .before .put .last .0) (at-first .before .step .ensures) (at-first .first-block .ensures) (c .before .before .before .before .before .before .before .xor-block .ensures) (h .0) (h .2)
+    (c .before .before .before .before .before .joined-last .result) (c .before .before .put .last .0) (at-first .before .step .ensures) (at-first .first-block .ensures) (c .before .before .before .before .before .before .before .xor-block .ensures) (h .0) (h .1 .1)
     (at-block .joined-block .ensures) (at-block .joined-block .kept .1 .1 .1 .1 .1 .1 .0) (c .before .before .before .before .before .joined-last .ensures) (c .before .before .before .before .before .joined-last .ok .1 .0 .1) (c .before .before .put .ensures) (c .before .before .put .kept .0)
 
 pub joined-end-spec : {M : Type 1} → statement M

@@ -1,4 +1,4 @@
--- `sealing::joined::joined_last` meets its contract.
+-- `cba_sealing::joined::joined_last` meets its contract.
 -- Assumes nothing.
 use mathlib.Core.Path.{ap, ap₂, _∙_}
 use Rattle.octets.specs.Xor.{xors}

@@ -1,4 +1,4 @@
--- `sealing::pieces::full_blocks` meets its contract: after i turns i blocks are sealed.
+-- `cba_sealing::pieces::full_blocks` meets its contract: after i turns i blocks are sealed.
 -- Assumes nothing.
 use mathlib.Core.Path.{_≡_}
 use Prim.Native.Nat.{_-_}
@@ -12,10 +12,10 @@ use Rattle.cba_sealing.proofs.pieces.full_blocks.Statement.{statement}
 use Rattle.cba_sealing.proofs.pieces.full_blocks.Tie as tie
 
 abbrev Inv-loop : tie.InvT-loop
-Inv-loop key ctx text k out₀ h₀ sum₀ i₀ out h sum i = Turned (cipher key) (halvesOf h₀) text out₀ (checksum text) k i (halvesOf h) sum out
+Inv-loop key ctx message k out₀ h₀ sum₀ i₀ out h sum i = Turned (cipher key) (halvesOf h₀) message out₀ (checksum message) k i (halvesOf h) sum out
 
 abbrev μ-loop : tie.MeasureT-loop
-μ-loop key ctx text k out₀ h₀ sum₀ i₀ out h sum i = k - i
+μ-loop key ctx message k out₀ h₀ sum₀ i₀ out h sum i = k - i
 
 again : tie.Need-loop-again Inv-loop μ-loop
 again c =

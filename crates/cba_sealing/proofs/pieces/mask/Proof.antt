@@ -1,4 +1,4 @@
--- `sealing::pieces::mask` meets its contract: after i turns the first i bytes are masked.
+-- `cba_sealing::pieces::mask` meets its contract: after i turns the first i bytes are masked.
 -- Assumes nothing.
 use mathlib.Core.Path.{_≡_, refl, ap, _∙_}
 use mathlib.Core.List.{List, _++_}

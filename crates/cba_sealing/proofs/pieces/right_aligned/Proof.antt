@@ -1,4 +1,4 @@
--- `sealing::pieces::right_aligned` meets its contract: the string is the end of the block.
+-- `cba_sealing::pieces::right_aligned` meets its contract: the string is the end of the block.
 -- Assumes nothing.
 use borrow.Author.Needs.{needs}
 use Rattle.cba_sealing.proofs.PieceLaws.{right-put}

@@ -1,4 +1,4 @@
--- `sealing::pieces::sealed_block` meets its contract, by those of the functions that it calls.
+-- `cba_sealing::pieces::sealed_block` meets its contract, by those of the functions that it calls.
 -- Assumes nothing.
 use mathlib.Core.Path.{refl, ap, ap₂, _∙_}
 use Rattle.octets.specs.Xor.{xors}

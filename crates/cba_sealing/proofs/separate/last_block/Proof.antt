@@ -1,4 +1,4 @@
--- `sealing::separate::last_block` meets its contract.
+-- `cba_sealing::separate::last_block` meets its contract.
 -- Assumes nothing.
 use mathlib.Core.Path.{ap, ap₂, _∙_}
 use Rattle.octets.specs.Xor.{xors}

@@ -1,4 +1,4 @@
--- `sealing::separate::last_offset` meets its contract.
+-- `cba_sealing::separate::last_offset` meets its contract.
 -- Assumes nothing.
 use mathlib.Core.Path.{ap, _∙_}
 use Rattle.cba_mode.specs.Offsets.{F}

@@ -20,7 +20,7 @@ unfolding dataHash L
 returns c =
     let a = c .before .before .before .before .before .before .args in
     c .walk .ensures
-    ∙ ap (λ (Δ : List ℕ). dataSum (cipher (a .key .now)) (replicate 16 0) Δ (a .header .now))
+    ∙ ap (λ (Δ : List ℕ). dataSum (cipher (a .key .now)) (replicate 16 0) Δ (a .ad .now))
     (c .before .split .ensures ∙ c .before .before .start .ensures ∙ ap (λ (l : List ℕ). start l 0) (c .before .before .before .encrypt .ensures))
 
 pub data-hash-spec : {M : Type 1} → statement M

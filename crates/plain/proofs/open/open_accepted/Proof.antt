@@ -12,10 +12,10 @@ use Rattle.cba_mode.specs.Open.{Answered, openWith}
 use Rattle.plain.proofs.open.open_accepted.Statement.{statement}
 use Rattle.plain.proofs.open.open_accepted.Tie as tie
 
-open-text-requires : tie.Need-open-text-requires
-open-text-requires c κs =
+dec-requires : tie.Need-dec-requires
+dec-requires c κs =
     let p = c .before .before .before .before .before .before .before .before .before .before .before .before .before .before .before .before .before .before .before .pre in
-    (c .before .before .before .before .before .before .before .before .before .before .before .fill .ensures, (c .before .before .before .before .before .before .fill-inverse .ensures, (p .fits, (p .nonce-length, p .least, p .room))))
+    (c .before .before .before .before .before .before .before .before .before .before .before .fill .ensures, (c .before .before .before .before .before .before .fill-inverse .ensures, p .opens))
 
 returns : tie.Need-returns
 unfolding tagOfData
@@ -24,9 +24,9 @@ returns c =
     let a = at-hash .before .before .before .before .before .before .before .before .before .before .before .before .before .before .before .before .args in
     subst
     (λ (h : List ℕ).
-    Answered (openWith (cipher (a .key .now)) (invCipher (a .key .now)) (a .p .tau) (a .p .capacity) (a .nonce .now) (take (tagBytes (a .p .tau)) h) (a .ciphertext .now)) (length (a .ciphertext .now) - tagBytes (a .p .tau)) (c .before .before .open-text .result) (a .out .now) (c .before .before .open-text .last .1 .1 .1 .1 .1 .1 .1 .1 .0))
+    Answered (openWith (cipher (a .key .now)) (invCipher (a .key .now)) (a .p .tau) (a .p .capacity) (a .nonce .now) (take (tagBytes (a .p .tau)) h) (a .ciphertext .now)) (length (a .ciphertext .now) - tagBytes (a .p .tau)) (c .before .before .dec .result) (a .out .now) (c .before .before .dec .last .1 .1 .1 .1 .1 .1 .1 .0))
     (at-hash .data-hash .ensures)
-    (c .before .before .open-text .ensures)
+    (c .before .before .dec .ensures)
 
 pub open-accepted-spec : {M : Type 1} → statement M
-open-accepted-spec = tie.close (tie.spec (λ c κs. search needs) (λ c. search needs) (λ c κs. search needs) (λ c κs. search needs) (λ c. search needs) (λ c κs. search needs) (λ c κs. search needs) open-text-requires (λ c. search needs) returns)
+open-accepted-spec = tie.close (tie.spec (λ c κs. search needs) (λ c. search needs) (λ c κs. search needs) (λ c κs. search needs) (λ c. search needs) (λ c κs. search needs) (λ c κs. search needs) dec-requires (λ c. search needs) returns)

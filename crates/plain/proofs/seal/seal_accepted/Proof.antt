@@ -12,18 +12,18 @@ use Rattle.cba_mode.specs.Seal.{sealWith}
 use Rattle.plain.proofs.seal.seal_accepted.Statement.{statement}
 use Rattle.plain.proofs.seal.seal_accepted.Tie as tie
 
-seal-message-requires : tie.Need-seal-message-requires
-seal-message-requires c κs =
+enc-requires : tie.Need-enc-requires
+enc-requires c κs =
     let p = c .before .before .before .before .before .before .before .before .before .before .before .before .before .pre in
-    (c .before .before .before .before .before .fill .ensures, (p .fits, (p .nonce-length, p .room)))
+    (c .before .before .before .before .before .fill .ensures, p .seals)
 
 returns : tie.Need-returns
 unfolding tagOfData
 returns c =
     let at-hash = c .before .before .before .before .before in
     let a = at-hash .before .before .before .before .before .before .before .before .before .before .before .args in
-    c .before .before .seal-message .ensures
+    c .before .before .enc .ensures
     ∙ ap (λ (h : List ℕ). sealWith (cipher (a .key .now)) (a .p .tau) (a .p .capacity) (a .nonce .now) (take (tagBytes (a .p .tau)) h) (a .message .now) ++ drop (length (a .message .now) + tagBytes (a .p .tau)) (a .out .now)) (at-hash .data-hash .ensures)
 
 pub seal-accepted-spec : {M : Type 1} → statement M
-seal-accepted-spec = tie.close (tie.spec (λ c κs. search needs) (λ c. search needs) (λ c κs. search needs) (λ c κs. search needs) seal-message-requires (λ c. search needs) returns)
+seal-accepted-spec = tie.close (tie.spec (λ c κs. search needs) (λ c. search needs) (λ c κs. search needs) (λ c κs. search needs) enc-requires (λ c. search needs) returns)

@@ -1,0 +1,98 @@
+-- What the functions of sealing require and leave. d is the output at entry and out at exit; sum is the sum whose first t bytes are T_A.
+-- Assumes nothing.
+use mathlib.Core.Path.{_≡_}
+use mathlib.Core.Bool.{Bool, true, false}
+use mathlib.Core.List.{List, _++_}
+use Prim.Native.Nat.{ℕ, _+_, _*_, _/_, _≤_}
+use lib.ListN.{length, take, drop}
+use Rattle.octets.specs.Xor.{xors}
+use Rattle.fips197.specs.Cipher.{cipher}
+use Rattle.cba_mode.specs.Sets.{Fits, ell, tagBytes}
+use Rattle.cba_mode.specs.Offsets.{F, offset, pad, leading}
+use Rattle.cba_mode.specs.Seal.{checksum, cipherBlocks, Δ₀, masked, joinedBlock, joinedEnd, joinedTail, lastBlock, lastOffset, separateTail, sealWith}
+use Rattle.cba_steps.specs.declared.parameters.Parameters.{Parameters}
+use Rattle.cba_steps.specs.declared.endings.Ending.{Ending}
+use Rattle.cba_sealing.specs.declared.begin.Begun.{Begun}
+use Rattle.cba_sealing.specs.declared.pieces.Running.{Running}
+
+-- ---- what every form requires
+
+-- parameters that fit, and a nonce
+pub record Given (p : Parameters) (N : List ℕ) : Type 0 where
+  pub fits : Fits (p .tau) (p .capacity)
+  pub nonce : length N ≡ 12
+
+-- and room for the sealing of M
+pub record Seals (p : Parameters) (N M d : List ℕ) : Type 0 where
+  pub given : Given p N
+  pub room : length M + tagBytes (p .tau) ≤ length d
+
+-- ---- parts
+
+-- ℓ in bytes
+abbrev pub firstBytes : Parameters → ℕ
+firstBytes p = ell (p .tau) (p .capacity) / 8
+
+-- T_A
+abbrev pub dataTag : Parameters → List ℕ → List ℕ
+dataTag p sum = take (tagBytes (p .tau)) sum
+
+-- a string plus the bytes of a block from a place on
+abbrev pub maskedBy : ℕ → List ℕ → List ℕ → List ℕ
+maskedBy at block s = xors s (take (length s) (drop at block))
+
+-- what every form begins with: the first offset, T_A with zeros before it, and C_0 from M_0, or M_0 from C_0
+pub record Covered (key : List ℕ) (p : Parameters) (N sum s d : List ℕ) (b : Begun) (out : List ℕ) : Type 0 where
+  pub offset-is : b .offset ≡ Δ₀ (cipher key) (p .tau) (p .capacity) N
+  pub data-is : b .data ≡ leading 16 (dataTag p sum)
+  pub data-size : length (dataTag p sum) ≡ tagBytes (p .tau)
+  pub written : out ≡ masked (cipher key) (p .tau) (p .capacity) N s ++ drop (length s) d
+
+-- after k full blocks of M through the block function E: the offset, the sum σ, and the blocks over d
+pub record Passed (E : List ℕ → List ℕ) (σ Δ M d : List ℕ) (k : ℕ) (r : Running) (out : List ℕ) : Type 0 where
+  pub offset-is : r .offset ≡ offset Δ k
+  pub sum-is : r .sum ≡ σ
+  pub written : out ≡ cipherBlocks E Δ M k ++ drop (16 * k) d
+
+-- C_1 .. C_k
+abbrev pub SealedBlocks : List ℕ → List ℕ → List ℕ → List ℕ → ℕ → Running → List ℕ → Type 0
+SealedBlocks key Δ M d k r out = Passed (cipher key) (checksum M k) Δ M d k r out
+
+-- C_{m−1} of the joined form
+abbrev pub JoinedBlock : List ℕ → List ℕ → List ℕ → List ℕ → List ℕ → List ℕ → List ℕ → Type 0
+JoinedBlock key Δ Tag m last d out = out ≡ joinedBlock (cipher key) Δ m (last ++ Tag) ++ drop (length last + length Tag) d
+
+-- C_{m−1} C_m of the joined form, from M_{m−1} M_m
+abbrev pub JoinedEnd : List ℕ → List ℕ → Running → List ℕ → List ℕ → List ℕ → Type 0
+JoinedEnd key Tag s rest d out =
+    out ≡ joinedEnd (cipher key) (F 2 2 (s .offset)) (xors (s .sum) (take 16 rest)) (take 16 rest) (drop 16 rest ++ Tag)
+    ++ drop (length rest + length Tag) d
+
+-- C_m of the separate form, or M_m from it
+abbrev pub LastBlock : List ℕ → List ℕ → List ℕ → List ℕ → List ℕ → List ℕ → Type 0
+LastBlock key Δ Tag last d out = out ≡ lastBlock (cipher key) Δ Tag last ++ drop (length last) d
+
+-- the block whose first t bytes are C_{m+1} of the separate form
+abbrev pub tagBlock : (List ℕ → List ℕ) → List ℕ → List ℕ → List ℕ → List ℕ → List ℕ
+tagBlock E Δ Tag S Mm = E (xors (xors (xors S (pad Mm)) (leading 16 Tag)) (lastOffset Δ (length Mm)))
+
+-- C_m C_{m+1} of the separate form
+abbrev pub SeparateEnd : List ℕ → List ℕ → Running → List ℕ → List ℕ → List ℕ → Type 0
+SeparateEnd key Tag s last d out =
+    out ≡ (lastBlock (cipher key) (s .offset) Tag last ++ take (length Tag) (tagBlock (cipher key) (s .offset) Tag (s .sum) last))
+    ++ drop (length last + length Tag) d
+
+-- what follows C_0, with k full blocks before its end
+unfoldable pub tailAs : Bool → (List ℕ → List ℕ) → List ℕ → List ℕ → List ℕ → ℕ → List ℕ
+tailAs true E Δ Tag M′ k = joinedTail E Δ Tag M′ k
+tailAs false E Δ Tag M′ k = separateTail E (8 * length Tag) Δ Tag M′ k
+
+abbrev pub Tail : List ℕ → Ending → List ℕ → List ℕ → List ℕ → List ℕ → List ℕ → Type 0
+Tail key e Tag Δ M′ d out = out ≡ tailAs (e .joined) (cipher key) Δ Tag M′ (e .blocks) ++ drop (length M′ + length Tag) d
+
+-- ---- the whole
+
+-- ENC, given T_A
+abbrev pub Enc : List ℕ → Parameters → List ℕ → List ℕ → List ℕ → List ℕ → List ℕ → Type 0
+Enc key p N sum M d out =
+    out ≡ sealWith (cipher key) (p .tau) (p .capacity) N (dataTag p sum) M ++ drop (length M + tagBytes (p .tau)) d
