@@ -16,7 +16,7 @@ use Rattle.aes_tables.proofs.RoundLaws.{length-entry, length-inverseEntry, leng
 use Rattle.fips197.specs.Schedule.{isKey, keyExpansion}
 use Rattle.aes.specs.Tables.{Entries}
 use Rattle.aes.proofs.TableLaws.{table-entries}
-use Rattle.aes.specs.Context.{roundKeys, Holds, Encrypts, Decrypts, KeysAt, answer, answered}
+use Rattle.aes.specs.Context.{roundKeys, blankOf, Holds, Encrypts, Decrypts, KeysAt, answer, answered}
 
 pub length-forward : length forward ≡ 2048
 length-forward = length-entries entry length-entry 0 256
@@ -31,7 +31,7 @@ cut : (s p q : List ℕ) (n : ℕ) → s ≡ p ++ q → length p ≡ n → (take
 cut s p q n e l = (ap (take n) e ∙ take-at p q n l, ap (drop n) e ∙ drop-at p q n l)
 
 -- round keys written behind the tables
-pub context-made : (tables : List ℕ) (n : ℕ) (s ctx last : List ℕ) → length tables ≡ n → ctx ≡ tables ++ replicate 240 0 →
+pub context-made : (tables : List ℕ) (n : ℕ) (s ctx last : List ℕ) → length tables ≡ n → ctx ≡ blankOf tables →
     last ≡ over s (take (length ctx - n) (drop n ctx)) →
     take n ctx ++ (last ++ drop (length ctx - n) (drop n ctx)) ≡ tables ++ over s (replicate 240 0)
 context-made tables n s ctx last l e p =
@@ -39,7 +39,7 @@ context-made tables n s ctx last l e p =
     let none : drop (length ctx - n) (drop n ctx) ≡ [] = drop-of-length-le (drop n ctx) {i = length ctx - n} (simp length-drop (omega arith)) in
     rw (none, p, to-end ctx n, q .0, q .1) (ap (λ (x : List ℕ). tables ++ x) (append-nil (over s (replicate 240 0))))
 
-pub blank-long : (tables : List ℕ) (n : ℕ) (ctx : List ℕ) → length tables ≡ n → ctx ≡ tables ++ replicate 240 0 → length ctx ≡ n + 240
+pub blank-long : (tables : List ℕ) (n : ℕ) (ctx : List ℕ) → length tables ≡ n → ctx ≡ blankOf tables → length ctx ≡ n + 240
 blank-long tables n ctx l e = ap length e ∙ length-append tables (replicate 240 0) ∙ omega arith
 
 module _ (tables key ctx : List ℕ) (h : Holds tables key ctx) (n : ℕ) (l : length tables ≡ n) where

@@ -13,7 +13,11 @@ use Rattle.fips197.specs.Schedule.{isKey, keyExpansion}
 unfoldable pub roundKeys : List ℕ → List ℕ
 roundKeys key = over (keyExpansion key) (replicate 240 0)
 
--- Tables and round keys, in an array that is lent. Nothing outside this crate looks inside.
+-- tables, with no key
+abbrev pub blankOf : List ℕ → List ℕ
+blankOf tables = tables ++ replicate 240 0
+
+-- Tables, and the round keys of a key. Nothing outside this crate looks inside.
 pub record Holds (tables key ctx : List ℕ) : Type 0 where
   pub good : isKey key ≡ true
   pub context : ctx ≡ tables ++ roundKeys key

@@ -4,15 +4,14 @@
 use aes_schedule::expand;
 ghost use mathlib.Core.Path.{_≡_};
 ghost use mathlib.Core.Bool.{true};
-ghost use mathlib.Core.List.{_++_};
 ghost use Prim.Native.Nat.{_*_, _≤_, suc};
-ghost use lib.ListN.{length, replicate};
+ghost use lib.ListN.{length};
 ghost use Rattle.octets.specs.Strings.{table};
 ghost use Rattle.field.specs.SBox.{invSBox};
 ghost use Rattle.aes_tables.specs.Round.{entry, inverseEntry, forward, inverses};
 ghost use Rattle.fips197.specs.Schedule.{isKey, keyExpansion};
 ghost use Rattle.fips197.specs.Cipher.{keyRounds};
-ghost use Rattle.aes.specs.Context.{Encrypts, Decrypts, KeysAt};
+ghost use Rattle.aes.specs.Context.{blankOf, Encrypts, Decrypts, KeysAt};
 ghost use Rattle.aes.specs.Tables.{Entries};
 
 pub type Context = [u8; 2288];
@@ -44,13 +43,13 @@ pub fn is_key(key: &[u8]) -> bool
 // constant is stored to the stack at every call of a function that names it.
 
 pub fn blank() -> Context
-    ensures { λ r. ⌜ r ≡ forward ++ replicate 240 0 ⌝ }
+    ensures { λ r. ⌜ r ≡ blankOf forward ⌝ }
 {
     aes_tables::forward()
 }
 
 pub fn blank_inverse() -> Inverse
-    ensures { λ r. ⌜ r ≡ inverses ++ replicate 240 0 ⌝ }
+    ensures { λ r. ⌜ r ≡ blankOf inverses ⌝ }
 {
     aes_tables::inverses()
 }
@@ -58,7 +57,7 @@ pub fn blank_inverse() -> Inverse
 // Fills a blank context for a key.
 pub fn fill(key: &[u8], ctx: &mut [u8])
     requires { ⌜ isKey (now key) ≡ true ⌝ }
-    requires { ⌜ now ctx ≡ forward ++ replicate 240 0 ⌝ }
+    requires { ⌜ now ctx ≡ blankOf forward ⌝ }
     ensures { λ _. ⌜ Encrypts (now (key .entry)) (now (ctx .exit)) ⌝ }
 {
     let s = field::s_box();
@@ -68,7 +67,7 @@ pub fn fill(key: &[u8], ctx: &mut [u8])
 // Fills the other, from the key's context.
 pub fn fill_inverse(key: &[u8], ctx: &Context, inv: &mut [u8])
     requires { ⌜ Encrypts (now key) (now ctx) ⌝ }
-    requires { ⌜ now inv ≡ inverses ++ replicate 240 0 ⌝ }
+    requires { ⌜ now inv ≡ blankOf inverses ⌝ }
     ensures { λ _. ⌜ Decrypts (now (key .entry)) (now (inv .exit)) ⌝ }
 {
     let c = &ctx[..];

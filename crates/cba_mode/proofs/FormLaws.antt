@@ -50,10 +50,6 @@ module _ (l t n : ℕ) where
   unfolding openForm
   open-single k p q = rw (lt-leb n (l + t) k, lt-ltb t (lastLength l n) p, lt-leb 1 (fullBlocks l n) q)
 
-  -- one block is never joined
-  pub open-one : l + t < n → fullBlocks l n < 1 → openForm l t n ≡ separate
-  open-one k q = ⊎-elim (λ p. open-long k p) (λ p. open-single k p q) (le-or-lt (lastLength l n) t)
-
   -- a statement about every message length, by its form
   pub by-form : {X : Type 0} → (n ≤ l → X) → (l < n → lastLength l n + t ≤ 16 → 1 ≤ fullBlocks l n → X) →
       (l < n → 16 < lastLength l n + t → X) → (l < n → lastLength l n + t ≤ 16 → fullBlocks l n < 1 → X) → X

@@ -61,26 +61,26 @@ module _ (E : List ℕ → List ℕ) where
       ∙ ap₂ (λ (x : List ℕ) (k : ℕ). (C₁ ++ x) ++ drop k d) (ec ∙ ap (joinedLast E Δ S) first) all
       ∙ ap (λ (x : List ℕ). x ++ drop (length rest + length tag) d) same
 
-  pub joined-tail-turn : (Δ tag text d out w Δₖ S : List ℕ) (k : ℕ) → let rest = take (length text - 16 * k) (drop (16 * k) text) in
-      16 * suc k < length text → length text ≤ 16 * suc (suc k) → length text + length tag ≤ length d → length out ≡ length d →
-      Δₖ ≡ offset Δ k → S ≡ checksum text k → out ≡ cipherBlocks E Δ text k ++ drop (16 * k) d →
+  pub joined-tail-turn : (Δ tag M′ d out w Δₖ S : List ℕ) (k : ℕ) → let rest = take (length M′ - 16 * k) (drop (16 * k) M′) in
+      16 * suc k < length M′ → length M′ ≤ 16 * suc (suc k) → length M′ + length tag ≤ length d → length out ≡ length d →
+      Δₖ ≡ offset Δ k → S ≡ checksum M′ k → out ≡ cipherBlocks E Δ M′ k ++ drop (16 * k) d →
       w ≡ joinedEnd E (F 2 2 Δₖ) (xors S (take 16 rest)) (take 16 rest) (drop 16 rest ++ tag)
       ++ drop (length rest + length tag) (take (length out - 16 * k) (drop (16 * k) out)) →
       length w ≡ length (take (length out - 16 * k) (drop (16 * k) out)) →
-      take (16 * k) out ++ (w ++ drop (length out - 16 * k) (drop (16 * k) out)) ≡ joinedTail E Δ tag text k ++ drop (length text + length tag) d
+      take (16 * k) out ++ (w ++ drop (length out - 16 * k) (drop (16 * k) out)) ≡ joinedTail E Δ tag M′ k ++ drop (length M′ + length tag) d
   unfolding joinedTail offset checksum
-  joined-tail-turn Δ tag text d out w Δₖ S k h₁ h₂ hd lo eΔ eS eo ew lw =
-      let rest = take (length text - 16 * k) (drop (16 * k) text) in
-      let er : rest ≡ drop (16 * k) text = to-end text (16 * k) in
-      let lr : length rest ≡ length text - 16 * k = ap length er ∙ length-drop (16 * k) text in
-      let el : drop 16 rest ≡ block 16 text (suc k) =
-      ap (drop 16) er ∙ drop-drop 16 (16 * k) text ∙ ap (λ (n : ℕ). drop n text) (sym (mul-suc 16 k))
-      ∙ sym (take-all 16 (drop (16 * suc k) text) (simp length-drop (omega arith))) in
-      let all : 16 * k + (length rest + length tag) ≡ length text + length tag = omega (arith, lr) in
-      let em : take 16 rest ≡ block 16 text k = ap (take 16) er in
-      then d (cipherBlocks E Δ text k) out (joinedEnd E (F 2 2 Δₖ) (xors S (take 16 rest)) (take 16 rest) (drop 16 rest ++ tag)) w (16 * k) (length rest + length tag)
+  joined-tail-turn Δ tag M′ d out w Δₖ S k h₁ h₂ hd lo eΔ eS eo ew lw =
+      let rest = take (length M′ - 16 * k) (drop (16 * k) M′) in
+      let er : rest ≡ drop (16 * k) M′ = to-end M′ (16 * k) in
+      let lr : length rest ≡ length M′ - 16 * k = ap length er ∙ length-drop (16 * k) M′ in
+      let el : drop 16 rest ≡ block 16 M′ (suc k) =
+      ap (drop 16) er ∙ drop-drop 16 (16 * k) M′ ∙ ap (λ (n : ℕ). drop n M′) (sym (mul-suc 16 k))
+      ∙ sym (take-all 16 (drop (16 * suc k) M′) (simp length-drop (omega arith))) in
+      let all : 16 * k + (length rest + length tag) ≡ length M′ + length tag = omega (arith, lr) in
+      let em : take 16 rest ≡ block 16 M′ k = ap (take 16) er in
+      then d (cipherBlocks E Δ M′ k) out (joinedEnd E (F 2 2 Δₖ) (xors S (take 16 rest)) (take 16 rest) (drop 16 rest ++ tag)) w (16 * k) (length rest + length tag)
       eo lo (omega (arith, lr)) ew lw
-      ∙ ap₂ (λ (x : List ℕ) (n : ℕ). (cipherBlocks E Δ text k ++ x) ++ drop n d) (rw (eΔ, eS, em, el) refl) all
+      ∙ ap₂ (λ (x : List ℕ) (n : ℕ). (cipherBlocks E Δ M′ k ++ x) ++ drop n d) (rw (eΔ, eS, em, el) refl) all
 
   -- ---- the separate form
 
@@ -101,19 +101,19 @@ module _ (E : List ℕ → List ℕ) where
       (ew ∙ ap (λ (k : ℕ). take (length tag) e ++ drop k (take (length out - length last) (drop (length last) out))) l) lw
       ∙ ap (λ (x : List ℕ). (lastBlock E Δ tag last ++ take (length tag) x) ++ drop (length last + length tag) d) ee
 
-  pub separate-tail-turn : (Δ tag text d out w Δₖ S : List ℕ) (k : ℕ) → let rest = take (length text - 16 * k) (drop (16 * k) text) in
-      16 * k < length text → length text ≤ 16 * suc k → length text + length tag ≤ length d → length out ≡ length d →
-      Δₖ ≡ offset Δ k → S ≡ checksum text k → out ≡ cipherBlocks E Δ text k ++ drop (16 * k) d →
+  pub separate-tail-turn : (Δ tag M′ d out w Δₖ S : List ℕ) (k : ℕ) → let rest = take (length M′ - 16 * k) (drop (16 * k) M′) in
+      16 * k < length M′ → length M′ ≤ 16 * suc k → length M′ + length tag ≤ length d → length out ≡ length d →
+      Δₖ ≡ offset Δ k → S ≡ checksum M′ k → out ≡ cipherBlocks E Δ M′ k ++ drop (16 * k) d →
       w ≡ (lastBlock E Δₖ tag rest ++ take (length tag) (tagBlock E Δₖ tag S rest)) ++ drop (length rest + length tag) (take (length out - 16 * k) (drop (16 * k) out)) →
       length w ≡ length (take (length out - 16 * k) (drop (16 * k) out)) →
-      take (16 * k) out ++ (w ++ drop (length out - 16 * k) (drop (16 * k) out)) ≡ separateTail E (8 * length tag) Δ tag text k ++ drop (length text + length tag) d
+      take (16 * k) out ++ (w ++ drop (length out - 16 * k) (drop (16 * k) out)) ≡ separateTail E (8 * length tag) Δ tag M′ k ++ drop (length M′ + length tag) d
   unfolding separateTail separateTag
-  separate-tail-turn Δ tag text d out w Δₖ S k h₁ h₂ hd lo eΔ eS eo ew lw =
-      let rest = take (length text - 16 * k) (drop (16 * k) text) in
-      let lr : length rest ≡ length text - 16 * k = ap length (to-end text (16 * k)) ∙ length-drop (16 * k) text in
-      let er : rest ≡ block 16 text k = to-end text (16 * k) ∙ sym (take-all 16 (drop (16 * k) text) (simp length-drop (omega arith))) in
-      let all : 16 * k + (length rest + length tag) ≡ length text + length tag = omega (arith, lr) in
+  separate-tail-turn Δ tag M′ d out w Δₖ S k h₁ h₂ hd lo eΔ eS eo ew lw =
+      let rest = take (length M′ - 16 * k) (drop (16 * k) M′) in
+      let lr : length rest ≡ length M′ - 16 * k = ap length (to-end M′ (16 * k)) ∙ length-drop (16 * k) M′ in
+      let er : rest ≡ block 16 M′ k = to-end M′ (16 * k) ∙ sym (take-all 16 (drop (16 * k) M′) (simp length-drop (omega arith))) in
+      let all : 16 * k + (length rest + length tag) ≡ length M′ + length tag = omega (arith, lr) in
       let size : length tag ≡ tagBytes (8 * length tag) = omega arith in
       let last : List ℕ → ℕ → List ℕ = λ x n. lastBlock E Δₖ tag x ++ take n (tagBlock E Δₖ tag S x) in
-      then d (cipherBlocks E Δ text k) out (last rest (length tag)) w (16 * k) (length rest + length tag) eo lo (omega (arith, lr)) ew lw
-      ∙ ap₂ (λ (x : List ℕ) (n : ℕ). (cipherBlocks E Δ text k ++ x) ++ drop n d) (ap₂ last er size ∙ rw (eΔ, eS) refl) all
+      then d (cipherBlocks E Δ M′ k) out (last rest (length tag)) w (16 * k) (length rest + length tag) eo lo (omega (arith, lr)) ew lw
+      ∙ ap₂ (λ (x : List ℕ) (n : ℕ). (cipherBlocks E Δ M′ k ++ x) ++ drop n d) (ap₂ last er size ∙ rw (eΔ, eS) refl) all

@@ -17,6 +17,7 @@ abbrev pub Closes : Bool → ℕ → ℕ → ℕ → Type 0
 Closes true k t n = (16 * suc k < n) × (n + t ≤ 16 * suc (suc k))
 Closes false k t n = n ≤ 16 * suc k
 
+-- n bytes are k full blocks and such an end
 pub record Ends (j : Bool) (k t n : ℕ) : Type 0 where
   pub within : 16 * k < n
   pub closes : Closes j k t n
