@@ -18,8 +18,8 @@ pub type Context = [u8; 2288];
 
 pub type Inverse = [u8; 2544];
 
-// Where the parts after the first begin: the round keys of a context; the inverse S-box and the round
-// keys of the other.
+// Where the parts after the first begin: the round keys of a context; the inverse S-box and the
+// round keys of that for decryption.
 pub const KEYS: usize = 2048;
 
 const INVERSE_BOX: usize = 2048;
@@ -64,7 +64,7 @@ pub fn fill(key: &[u8], ctx: &mut [u8])
     expand(key, &s, &mut ctx[KEYS..]);
 }
 
-// Fills the other, from the key's context.
+// Fills a blank context for decryption, from the key's context.
 pub fn fill_inverse(key: &[u8], ctx: &Context, inv: &mut [u8])
     requires { ⌜ Encrypts (now key) (now ctx) ⌝ }
     requires { ⌜ now inv ≡ blankOf inverses ⌝ }

@@ -127,7 +127,8 @@ fn attempted(
     open_long(key, ctx, inv, p, nonce, sum, ciphertext, out)
 }
 
-// DEC, given T_A, the first t bytes of the sum: the message over the first bytes of out, or zeros where the tags differ.
+// DEC, given T_A, the first t bytes of the sum: the message over the first bytes of out, or zeros
+// where the tags differ.
 pub fn dec(
     key: &[u8],
     ctx: &aes::Context,

@@ -47,7 +47,9 @@ fn open_accepted(
     out: &mut [u8],
 ) -> bool
     requires { ⌜ Openable p (now key) (now nonce) (now ad) (now ciphertext) (now out) ⌝ }
-    ensures { λ r. ⌜ OpenedBy p (now (key .entry)) (now (nonce .entry)) (now (ad .entry)) (now (ciphertext .entry)) r (now (out .entry)) (now (out .exit)) ⌝ }
+    ensures { λ r. ⌜
+        OpenedBy p (now (key .entry)) (now (nonce .entry)) (now (ad .entry)) (now (ciphertext .entry)) r (now (out .entry)) (now (out .exit))
+        ⌝ }
 {
     let mut ctx = aes::blank();
     aes::fill(key, &mut ctx);
