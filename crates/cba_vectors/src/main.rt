@@ -25,7 +25,7 @@ fn print_data_tag(set: u8, key: &[u8], ad: &[u8]) {
     let plain::Set::Known(p) = plain::lookup(set as u32) else {
         return;
     };
-    if ad.len() > 4096 {
+    if ad.len() > plain::MOST_DATA {
         return;
     }
     if aes::is_key(key) {

@@ -5,7 +5,7 @@
 //   make: byte 0 is 0; 1..5 the set, 5 the key's length, 6.. the key
 //   put:  byte 0 is 1; 1..5 the set, 5..37 the key, 37..45 the total, 45 whether there is a last nonce,
 //         46..58 that nonce: the ledger is these values, whatever they are
-//   seal: byte 0 is 2; 1 the nonce's length, 2..5, 5..8 and 8..11 the lengths of data, text and output,
+//   seal: byte 0 is 2; 1 the nonce's length, 2..5, 5..8 and 8..11 the lengths of data, message and output,
 //         11 and 12 the seeds of data and message, 13.. the nonce
 //   lent: byte 0 is 3; the rest as for seal. The ledger is lent to the call, which changes it in place
 //

@@ -10,7 +10,7 @@ ghost use Rattle.cba_rules.specs.Checks.{badKey, badNonce, longData, messageRow
 
 const NONCE: usize = 12;
 
-const MOST_DATA: usize = 4096;
+pub const MOST_DATA: usize = 4096;
 
 const MOST_MESSAGE: usize = 65536;
 

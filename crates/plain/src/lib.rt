@@ -5,6 +5,7 @@ mod open;
 mod seal;
 mod sets;
 
+pub use checks::MOST_DATA;
 pub use checks::ad_check;
 pub use checks::ciphertext_check;
 pub use checks::first_of;
