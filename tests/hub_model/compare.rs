@@ -1,6 +1,6 @@
-//! Holds what the program writes to what the model writes.
+//! Holds what the program writes to what the model writes, byte by byte.
 
-use super::model::{self, LF, SUMMARY};
+use super::model::{self, LF};
 use super::pipes::{command, run, Pipe, Run};
 use crate::shared::random::Random;
 
@@ -9,16 +9,6 @@ pub struct Bench {
     pub random: Random,
     /// The part of the test, by which a file is named.
     pub part: &'static str,
-}
-
-/// The lines, each with its LF. Those after `set accepted` are sorted: their order is free.
-fn sorted(output: &[u8]) -> Vec<&[u8]> {
-    let mut lines: Vec<&[u8]> = output.split_inclusive(|&byte| byte == LF).collect();
-    let summary = (SUMMARY.to_owned() + "\n").into_bytes();
-    if let Some(i) = lines.iter().position(|&line| line == summary) {
-        lines[i + 1..].sort();
-    }
-    lines
 }
 
 /// A line as it is shown, and no more than its start.
@@ -33,7 +23,13 @@ fn shown(line: Option<&&[u8]>) -> String {
 /// The first line of the output that differs, with the line of the input that it answers: the output has a heading
 /// where the input has its first line.
 fn difference(input: &[u8], expected: &[u8], found: &[u8]) -> Option<String> {
-    let (expected, found) = (sorted(expected), sorted(found));
+    if expected == found {
+        return None;
+    }
+    let [expected, found] = [expected, found].map(|output| {
+        let lines = output.split_inclusive(|&byte| byte == LF);
+        lines.collect::<Vec<_>>()
+    });
     let most = expected.len().max(found.len());
     let i = (0..most).find(|&i| expected.get(i) != found.get(i))?;
     let input = shown(model::lines(input).nth(i).as_ref());

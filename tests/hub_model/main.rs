@@ -17,6 +17,7 @@ mod inputs;
 mod limits;
 mod lines;
 mod model;
+mod orders;
 mod parts;
 mod pipes;
 mod script;
@@ -32,9 +33,10 @@ use std::time::Instant;
 
 type Part = (&'static str, fn(&mut Bench) -> Result<String, String>);
 
-const PARTS: [Part; 6] = [
+const PARTS: [Part; 7] = [
     ("random inputs", parts::random_inputs),
     ("pieces", parts::pieces),
+    ("orders of sets", orders::orders_of_sets),
     ("counts of lines", parts::counts),
     ("memory", limits::memory),
     ("noise", parts::any_bytes),

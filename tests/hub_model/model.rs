@@ -1,4 +1,4 @@
-//! The hub program of document 01, written a second time.
+//! The hub program of documents 01 and 02, written a second time.
 
 use crate::shared::expected::{Act, OPEN, SEAL};
 use crate::shared::mode::bytes::{from_hex, to_hex};
@@ -87,6 +87,7 @@ pub fn write_for(
         }
     }
     writeln!(out, "{SUMMARY}")?;
+    // A map's keys rise, as numbers: document 02, F-1.
     for (set, count) in accepted {
         writeln!(out, "{set} {count}")?;
     }

@@ -4,3 +4,4 @@ pub mod StreamLaws
 pub mod CuttingLaws
 pub mod BufferLaws
 pub mod UsedLaws
+pub mod SummaryLaws

@@ -1,3 +1,4 @@
 pub mod Answers
 pub mod Whole
 pub mod Stream
+pub mod Summary

@@ -55,7 +55,7 @@ unfoldable pub countFor : ℕ → List (List ℕ) → ℕ
 countFor set [] = 0
 countFor set (l ∷ ls) = cond (eqb (acceptedSet (parse l)) set) 1 0 + countFor set ls
 
--- a row for each set with any; their order is free, and this is one
+-- a row for each set with any, by set number
 unfoldable pub rowFor : ℕ → ℕ → List ℕ
 rowFor set n = cond (eqb n 0) [] (decimal set ++ ((32 ∷ decimal n) ++ (10 ∷ [])))
 
