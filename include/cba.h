@@ -38,7 +38,9 @@ extern "C" {
 
    All sealings under one key use at most 2 to the capacity of blocks. One uses ceil(data_len / 16)
    + ceil(text_len / 16). These calls do not count; a ledger does (crates/ledger, for callers in
-   Rattle).
+   Rattle), one for each console that seals under the key. The console's number is in the first two
+   bytes of its nonces, so that no two consoles share one. That the ledgers of a key have different
+   numbers, and that their totals together stay at 2 to the capacity, is the hub's to see to.
 
    Each pointer is to as many bytes as its length says. Where that is 0 the pointer is not used, and
    may be NULL or any other. out must not overlap an input, so that nothing is sealed or opened in
@@ -61,6 +63,9 @@ enum cba_answer {
     CBA_BUFFER = 7, /* out_len is less than the result's length */
     CBA_FALSE = 8   /* opening: no message seals to this ciphertext under these other inputs */
 };
+
+/* Numbers that no call here answers: 9, stale, 10, spent, and 12, console, are a ledger's; 11,
+   line, is the hub program's. */
 
 /* The bytes of stack that are enough for a call with so many bytes of data, and for any call: 96
    KiB. The data are walked by a recursion, a call for each 16 bytes. The figures are measured and

@@ -1,25 +1,34 @@
-//! The key ledger written a second time, from document 01, and what crates/ledger_script is held to by it.
+//! The key ledger written a second time, from document 01 and F-2, and what crates/ledger_script is held to by it.
 //!
 //!     target/tests/ledger_model stdin
 //!     target/tests/ledger_model stdout
 //!     target/tests/ledger_model run PROGRAM [SEED]
 //!
-//! The first two write the script of the gate and what it must print. The third runs 10,000 random lists of calls
-//! through the program, target/bin/ledger_script, and compares each line: the answer, each field of the ledger and
-//! the output. It prints its seed, and the same seed makes the same run. The exit status is 0 where there is no
-//! difference, 1 where there is one, and 2 where an argument is wrong.
+//! The first two write the script of the gate and what it must print. The third runs 10,000 random lists of calls, and
+//! 2,000 on several ledgers of one key, through the program, target/bin/ledger_script, and compares each line: the
+//! answer, each field of the ledger and the output. In the program's own lines it looks for a nonce that was accepted
+//! on two consoles of one key, or that begins with another number than its console's. It prints its seed, and the same
+//! seed makes the same run. The exit status is 0 where there is no difference and no such nonce, 1 where there is one,
+//! and 2 where an argument is wrong.
 
 #![allow(non_snake_case)] // the paper's names
 
+mod calls;
+mod consoles;
 mod lists;
 mod model;
 mod script;
+mod script_consoles;
+mod seen;
 #[path = "../shared/mod.rs"]
 mod shared;
+mod steps;
 
-use lists::{list, Seen};
+use consoles::Nonces;
+use lists::{list, one_key, List};
 use model::Record;
 use script::script;
+use seen::Seen;
 use shared::random::Random;
 use shared::seed::{seed, wrong};
 use std::collections::BTreeMap;
@@ -28,6 +37,7 @@ use std::process::{exit, Command, Stdio};
 use std::time::Instant;
 
 const LISTS: usize = 10_000;
+const ONE_KEY: usize = 2_000; // lists on ledgers of one key
 const SHOWN: usize = 5; // differences that are printed
 
 /// What the program writes for the records, and whether it ended well.
@@ -47,10 +57,10 @@ fn output(program: &str, records: Vec<u8>) -> Result<(String, bool), String> {
 }
 
 /// Compares the lines, of which it prints the first that differ with their calls, and counts the differences.
-fn differences(lists: &[(Vec<Record>, Vec<String>)], found: &str) -> usize {
+fn differences(lists: &[List], found: &str) -> usize {
     let mut found_lines = found.lines();
     let mut count = 0;
-    for (n, (records, lines)) in lists.iter().enumerate() {
+    for (n, List { records, lines, .. }) in lists.iter().enumerate() {
         for (i, line) in lines.iter().enumerate() {
             let found = found_lines.next().unwrap_or("nothing");
             count += (found != line) as usize;
@@ -69,16 +79,7 @@ fn by_answer(counts: &BTreeMap<u32, usize>) -> String {
     answers.collect::<Vec<_>>().join(", ")
 }
 
-fn run(program: &str, word: Option<&str>) -> ! {
-    let mut random = Random(seed("ledger_model", word));
-    let start = Instant::now();
-    let mut seen = Seen::default();
-    let lists: Vec<_> = (0..LISTS).map(|_| list(&mut random, &mut seen)).collect();
-    let records = lists.iter().flat_map(|(records, _)| records);
-    let found = output(program, records.flat_map(Record::bytes).collect());
-    let (found, ended) = found.unwrap_or_else(|why| wrong(&format!("ledger_model: {why}")));
-    let differences = differences(&lists, &found) + !ended as usize;
-
+fn show(seen: &Seen) {
     println!(
         "ledger_model: makings, {}; hand-made: {}",
         by_answer(&seen.makings),
@@ -92,15 +93,36 @@ fn run(program: &str, word: Option<&str>) -> ! {
         );
     }
     println!(
-        "ledger_model: {LISTS} lists; {} pairs of refusals, {} sums of 2^64 or more; {differences} differences; {:.1} s",
+        "ledger_model: {} pairs of refusals, {} sums of 2^64 or more; last nonce of another console, {}",
         seen.pairs.len(),
         seen.above_2_64,
-        start.elapsed().as_secs_f64()
+        by_answer(&seen.other_last)
     );
-    if differences != 0 {
+}
+
+fn run(program: &str, word: Option<&str>) -> ! {
+    let mut random = Random(seed("ledger_model", word));
+    let start = Instant::now();
+    let (mut seen, mut seen_one_key) = (Seen::default(), Seen::default());
+    let mut lists: Vec<List> = (0..LISTS).map(|_| list(&mut random, &mut seen)).collect();
+    lists.extend((0..ONE_KEY).map(|_| one_key(&mut random, &mut seen_one_key)));
+    let records = lists.iter().flat_map(|list| &list.records);
+    let found = output(program, records.flat_map(Record::bytes).collect());
+    let (found, ended) = found.unwrap_or_else(|why| wrong(&format!("ledger_model: {why}")));
+    let differences = differences(&lists, &found) + !ended as usize;
+    let nonces = Nonces::read(&lists, LISTS, &found);
+
+    show(&seen);
+    nonces.show(ONE_KEY);
+    let seconds = start.elapsed().as_secs_f64();
+    println!(
+        "ledger_model: {LISTS} and {ONE_KEY} lists; {differences} differences; {seconds:.1} s"
+    );
+    if differences != 0 || nonces.wrong() {
         exit(1);
     }
     seen.all();
+    nonces.many();
     exit(0)
 }
 

@@ -1,4 +1,5 @@
-//! The key ledger of document 01, and the records and lines of crates/ledger_script, as its src/main.rt says.
+//! The key ledger of document 01 with the console number of F-2, and the records and lines of crates/ledger_script, as
+//! its src/main.rt says.
 
 use crate::shared::expected::{set, MOST_DATA, MOST_TEXT, NONCE, SEAL};
 use crate::shared::mode::bytes::to_hex;
@@ -8,15 +9,17 @@ use crate::shared::mode::cba::SETS;
 pub struct Ledger {
     pub set: u32,
     pub key: [u8; 32],
+    pub console: u16,
     pub total: u64,
     pub begun: bool,
     pub last: [u8; NONCE],
 }
 
-/// What a refused making returns: set 0, a key of zeros, total 0 and no nonce.
+/// What a refused making returns: set 0, a key of zeros, console 0, total 0 and no nonce.
 pub const NO_LEDGER: Ledger = Ledger {
     set: 0,
     key: [0; 32],
+    console: 0,
     total: 0,
     begun: false,
     last: [0; NONCE],
@@ -45,6 +48,18 @@ pub fn nonce(number: u128) -> Vec<u8> {
 }
 
 pub const MOST_NONCE: u128 = (1 << 96) - 1;
+pub const MOST_LOW: u128 = (1 << 80) - 1;
+
+/// The nonce that begins with the console number, with this number in the ten bytes after it.
+pub fn nonce_on(console: u16, low: u128) -> Vec<u8> {
+    assert!(low <= MOST_LOW, "more than ten bytes");
+    nonce((console as u128) << 80 | low)
+}
+
+/// The number in the first two bytes, where there are two.
+pub fn start(nonce: &[u8]) -> Option<u16> {
+    nonce.first_chunk().map(|&two| u16::from_be_bytes(two))
+}
 
 /// 2^b, where there is such a set.
 pub fn capacity(number: u32) -> Option<u128> {
@@ -56,7 +71,7 @@ fn charge(data: usize, text: usize) -> u128 {
 }
 
 /// A making's answer and the ledger.
-fn make(number: u32, key: &[u8]) -> (u32, Ledger) {
+fn make(number: u32, console: u16, key: &[u8]) -> (u32, Ledger) {
     let Some(s) = set(number) else {
         return (1, NO_LEDGER);
     };
@@ -65,6 +80,7 @@ fn make(number: u32, key: &[u8]) -> (u32, Ledger) {
     }
     let mut made = NO_LEDGER;
     made.set = number;
+    made.console = console;
     made.key[..key.len()].copy_from_slice(key);
     (0, made)
 }
@@ -75,13 +91,15 @@ impl Ledger {
         self.total as u128 + charge(call.data, call.text)
     }
 
-    /// The refusals that apply, in the order of the table. Where there is no set, 7 and 10 have no meaning.
+    /// The refusals that apply, in the order of the table. Where there is no set, 7 and 10 have no meaning, and
+    /// where the nonce has no two bytes, 12 has none.
     pub fn refusals(&self, call: &Call) -> Vec<u32> {
         let short = |t| call.out < call.text + t;
         let stale = number(&call.nonce) <= number(&self.last);
         let rows = [
             (1, set(self.set).is_none()),
             (3, call.nonce.len() != NONCE),
+            (12, start(&call.nonce).is_some_and(|n| n != self.console)),
             (4, call.data > MOST_DATA),
             (5, call.text > MOST_TEXT),
             (7, set(self.set).is_some_and(|s| short(s.t))),
@@ -127,7 +145,7 @@ pub const MOST_HEADER: usize = 8_192;
 
 #[derive(Clone, Debug)]
 pub enum Record {
-    Make(u32, Vec<u8>),
+    Make(u32, u16, Vec<u8>), // set, console and key
     Put(Ledger),
     Seal(Call),
 }
@@ -151,13 +169,19 @@ fn shown(out: &[u8]) -> String {
 impl Record {
     pub fn bytes(&self) -> Vec<u8> {
         let mut bytes = match self {
-            Record::Make(set, key) => {
-                [&[0], &set.to_be_bytes()[..], &[key.len() as u8], key].concat()
-            }
+            Record::Make(set, console, key) => [
+                &[0],
+                &set.to_be_bytes()[..],
+                &console.to_be_bytes(),
+                &[key.len() as u8],
+                key,
+            ]
+            .concat(),
             Record::Put(l) => [
                 &[1],
                 &l.set.to_be_bytes()[..],
                 &l.key,
+                &l.console.to_be_bytes(),
                 &l.total.to_be_bytes(),
                 &[l.begun as u8],
                 &l.last,
@@ -182,8 +206,8 @@ impl Record {
     /// What the call does to a ledger, and the line that it prints.
     pub fn line(&self, ledger: &mut Ledger) -> String {
         let (start, out) = match self {
-            Record::Make(set, key) => {
-                let (answer, made) = make(*set, key);
+            Record::Make(set, console, key) => {
+                let (answer, made) = make(*set, *console, key);
                 *ledger = made;
                 (format!("make {answer}"), String::new())
             }
@@ -201,11 +225,13 @@ impl Record {
         let Ledger {
             set,
             key,
+            console,
             total,
             begun,
             last,
         } = ledger;
         let (key, last) = (to_hex(key), to_hex(last));
-        format!("{start} {set} {key} {total} {} {last}{out}", *begun as u8)
+        let begun = *begun as u8;
+        format!("{start} {set} {key} {console} {total} {begun} {last}{out}")
     }
 }

@@ -1,79 +1,12 @@
-//! The script of the gate. The answers and the totals in it are document 01's, by hand; the model must agree.
+//! The script of the gate. The answers and the totals in it are those of document 01 and F-2, by hand; the model must
+//! agree.
 
-use super::model::{nonce, Call, Ledger, Record, MOST_NONCE, NO_LEDGER};
-
-pub struct Script {
-    pub records: Vec<Record>,
-    pub lines: Vec<String>,
-    ledger: Ledger,
-    lent: &'static [bool], // whether a sealing's ledger is lent, in turn
-}
-
-/// A key of 32 bytes that are all different, and none 0.
-fn key() -> [u8; 32] {
-    std::array::from_fn(|i| 0x11 + i as u8)
-}
-
-impl Script {
-    fn add(&mut self, record: Record) {
-        self.lines.push(record.line(&mut self.ledger));
-        self.records.push(record);
-    }
-
-    fn says(&self, answer: u32, total: u64) {
-        let line = self.lines.last().expect("a line");
-        let found = line.split(' ').nth(1).expect("an answer");
-        let step = self.lines.len();
-        assert_eq!(found, answer.to_string(), "step {step}: another answer");
-        assert_eq!(self.ledger.total, total, "step {step}: another total");
-    }
-
-    /// A making with the key's first bytes, 00 after the 32.
-    fn make(&mut self, answer: u32, set: u32, length: usize) {
-        let key: Vec<u8> = key().into_iter().chain([0; 32]).take(length).collect();
-        self.add(Record::Make(set, key));
-        self.says(answer, 0);
-    }
-
-    fn put(&mut self, set: u32, total: u64, last: Option<u128>) {
-        let last_bytes = nonce(last.unwrap_or(MOST_NONCE)); // of no use where there is none
-        self.add(Record::Put(Ledger {
-            set,
-            key: key(),
-            total,
-            begun: last.is_some(),
-            last: last_bytes.try_into().expect("12 bytes"),
-        }));
-    }
-
-    /// A sealing that must give the answer and leave the total.
-    fn seal_bytes(&mut self, expected: (u32, u64), nonce: Vec<u8>, lengths: [usize; 3]) {
-        let [data, text, out] = lengths;
-        let seeds = [1, 2];
-        let lent = self.lent[self.records.len() % self.lent.len()];
-        self.add(Record::Seal(Call {
-            lent,
-            nonce,
-            data,
-            text,
-            out,
-            seeds,
-        }));
-        self.says(expected.0, expected.1);
-    }
-
-    fn seal(&mut self, expected: (u32, u64), number: u128, lengths: [usize; 3]) {
-        self.seal_bytes(expected, nonce(number), lengths);
-    }
-}
+use super::model::{nonce_on, MOST_LOW};
+use super::script_consoles::consoles;
+use super::steps::Script;
 
 pub fn script() -> Script {
-    let mut s = Script {
-        records: vec![],
-        lines: vec![],
-        ledger: NO_LEDGER,
-        lent: &[false],
-    };
+    let mut s = Script::new();
     makings(&mut s);
     every_set(&mut s);
     refusals(&mut s);
@@ -81,6 +14,7 @@ pub fn script() -> Script {
     whole_capacity(&mut s);
     hand_made(&mut s);
     unused_key_bytes(&mut s);
+    consoles(&mut s);
     lent(&mut s);
     s
 }
@@ -102,7 +36,8 @@ fn makings(s: &mut Script) {
     s.seal((1, 0), 8, [1, 17, 21]);
 }
 
-/// A fresh ledger takes nonce 0. The charge of 1 data byte and 17 message bytes is 3.
+/// A fresh ledger takes the least nonce that begins with its number. The charge of 1 data byte and 17 message bytes
+/// is 3.
 fn every_set(s: &mut Script) {
     let keys_and_tags = [
         (16, 4),
@@ -148,30 +83,58 @@ fn refusals(s: &mut Script) {
     s.seal((7, 65536), 501, [0, 1, 8]);
     s.seal((9, 65536), 500, [0, 1, 9]);
     s.seal((10, 65536), 501, [0, 1, 9]);
-    s.seal((10, 65536), MOST_NONCE, [1, 0, 8]);
+    s.seal((10, 65536), MOST_LOW, [1, 0, 8]);
     s.seal((0, 65536), 501, [0, 0, 8]);
 }
 
-/// Nonces are 96-bit big-endian numbers: the first byte counts most, the last least.
+/// Nonces are 96-bit big-endian numbers: of the ten bytes after the console number the first counts most, the last
+/// least.
 fn nonces(s: &mut Script) {
     let none = [0, 0, 4];
     s.make(0, 2, 16);
-    s.seal((0, 0), 1 << 88, none);
-    s.seal((9, 0), (1 << 88) - 1, none); // 00ff..ff
+    s.seal((0, 0), 1 << 72, none);
+    s.seal((9, 0), (1 << 72) - 1, none); // 00ff..ff
     s.seal((9, 0), 0xff, none);
-    s.seal((0, 0), (1 << 88) + 1, none);
-    s.seal((9, 0), 1 << 88, none);
-    s.seal((0, 0), (1 << 88) + 0x100, none); // the last byte falls, the one before rises
-    s.seal((9, 0), (1 << 88) + 0xff, none);
-    s.seal((0, 0), (1 << 88) + (1 << 64), none); // only the bytes before the last eight rise
-    s.seal((9, 0), (1 << 88) + (1 << 64) - 1, none);
-    s.seal((0, 0), 2 << 88, none); // the first byte rises, the others fall
-    s.seal((0, 0), 0x80 << 88, none); // no sign
-    s.seal((9, 0), 0x7f << 88, none);
-    s.seal((0, 0), MOST_NONCE - 1, none);
-    s.seal((0, 0), MOST_NONCE, none);
-    s.seal((9, 0), MOST_NONCE, none); // no nonce is above it
+    s.seal((0, 0), (1 << 72) + 1, none);
+    s.seal((9, 0), 1 << 72, none);
+    s.seal((0, 0), (1 << 72) + 0x100, none); // the last byte falls, the one before rises
+    s.seal((9, 0), (1 << 72) + 0xff, none);
+    s.seal((0, 0), (1 << 72) + (1 << 64), none); // only the bytes before the last eight rise
+    s.seal((9, 0), (1 << 72) + (1 << 64) - 1, none);
+    s.seal((0, 0), 2 << 72, none); // the first of the ten rises, the others fall
+    s.seal((0, 0), 0x80 << 72, none); // no sign
+    s.seal((9, 0), 0x7f << 72, none);
+    s.seal((0, 0), MOST_LOW - 1, none);
+    s.seal((0, 0), MOST_LOW, none);
+    s.seal((9, 0), MOST_LOW, none); // no nonce of this console is above it
     s.seal((9, 0), 0, none);
+    first_two_bytes(s);
+}
+
+/// They count most. By hand, as they stay the same along a list: each ledger has a last nonce of another console.
+fn first_two_bytes(s: &mut Script) {
+    let none = [0, 0, 4];
+    let console = s.console;
+    let pairs = [
+        (0, 1),
+        (0, 65535),
+        (1, 256),
+        (255, 256),
+        (258, 513),
+        (0x7fff, 0x8000),
+        (65534, 65535),
+    ];
+    for (low, high) in pairs {
+        s.console = low;
+        s.put_last(2, 7, Some(nonce_on(high, 0)));
+        s.seal((9, 7), MOST_LOW, none); // the ten bytes after are above
+        s.seal((9, 7), 0, none);
+        s.console = high;
+        s.put_last(2, 7, Some(nonce_on(low, MOST_LOW)));
+        s.seal((0, 7), 0, none); // the ten bytes after are below
+        s.seal((9, 7), 0, none);
+    }
+    s.console = console;
 }
 
 /// On set 1, 16 messages of 65,536 bytes make 65,536 blocks, the capacity.
@@ -245,14 +208,17 @@ fn unused_key_bytes(s: &mut Script) {
     }
 }
 
-/// On a lent ledger: every set, each refusal, hand-made ledgers, and both kinds of call on one ledger.
+/// On a lent ledger: every set, each refusal, hand-made ledgers, consoles, and both kinds of call on one ledger.
 fn lent(s: &mut Script) {
     s.lent = &[true];
+    s.console = 65534;
     every_set(s);
     refusals(s);
     hand_made(s);
+    consoles(s);
     s.lent = &[false, true, true];
     refusals(s);
+    s.console = 513;
     nonces(s);
 }
 

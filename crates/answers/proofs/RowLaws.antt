@@ -135,3 +135,13 @@ two-parts (x ∷ xs) ys own = go (two-parts xs ys (own-rest x xs own)) (x .when)
 
 pub joined : {r a b : ℕ} (xs ys : List Row) → ownNumbers (numbers xs) ≡ true → r ≡ firstOf a b → a ≡ answer xs → b ≡ answer ys → r ≡ answer (xs ++ ys)
 joined xs ys own d e f = d ∙ ap₂ firstOf e f ∙ sym (two-parts xs ys own)
+
+-- a call that stops at a refusal of the first part, and one that goes on
+module _ {r : ℕ} (xs ys : List Row) (own : ownNumbers (numbers xs) ≡ true) (e : r ≡ answer xs) where
+  pub stops : (r ≡ 0 → ⊥) → r ≡ answer (xs ++ ys)
+  unfolding firstOf
+  stops n = e ∙ sym (two-parts xs ys own ∙ rw (ne-eqb (answer xs) 0 (λ z. n (e ∙ z))) refl)
+
+  pub goes-on : {a : ℕ} → r ≡ 0 → a ≡ answer ys → a ≡ answer (xs ++ ys)
+  unfolding firstOf
+  goes-on z f = f ∙ sym (two-parts xs ys own ∙ rw (sym e ∙ z) refl)

@@ -1,4 +1,4 @@
--- All answers: document 01's table. Each keeps its number for ever.
+-- All answers: document 01's table, and those that document 02's requests add. Each keeps its number for ever.
 -- Assumes nothing.
 use mathlib.Core.List.{List, [], _∷_}
 use Prim.Native.Nat.{ℕ}
@@ -7,9 +7,10 @@ use Prim.Native.String.{String}
 pub record Entry : Type 0 where
   pub number : ℕ
   pub word : String
+  pub when : String
 
-abbrev entry : ℕ → String → Entry
-entry n w = record { number = n; word = w }
+abbrev entry : ℕ → String → String → Entry
+entry n w c = record { number = n; word = w; when = c }
 
 -- the numbers of a table
 unfoldable pub numbersOf : List Entry → List ℕ
@@ -18,16 +19,17 @@ numbersOf (e ∷ es) = e .number ∷ numbersOf es
 
 abbrev pub table : List Entry
 table =
-    entry 0 "accepted"
-    ∷ entry 1 "set"
-    ∷ entry 2 "key"
-    ∷ entry 3 "nonce"
-    ∷ entry 4 "data"
-    ∷ entry 5 "text"
-    ∷ entry 6 "stub"
-    ∷ entry 7 "buffer"
-    ∷ entry 8 "false"
-    ∷ entry 9 "stale"
-    ∷ entry 10 "spent"
-    ∷ entry 11 "line"
+    entry 0 "accepted" "no check applies"
+    ∷ entry 1 "set" "not 1 to 10"
+    ∷ entry 2 "key" "length not the set's"
+    ∷ entry 3 "nonce" "length not 12"
+    ∷ entry 4 "data" "over 4,096 bytes"
+    ∷ entry 5 "text" "message over 65,536 bytes, or ciphertext over 65,536 + t"
+    ∷ entry 6 "stub" "ciphertext under t bytes"
+    ∷ entry 7 "buffer" "output shorter than the result's length"
+    ∷ entry 8 "false" "no message seals to this ciphertext"
+    ∷ entry 9 "stale" "ledger: nonce not above the last accepted"
+    ∷ entry 10 "spent" "ledger: total + charge above 2^b"
+    ∷ entry 11 "line" "program: malformed line"
+    ∷ entry 12 "console" "ledger: the nonce's first two bytes are another number than the ledger's"
     ∷ []

@@ -1,16 +1,16 @@
 -- What the ten parameter sets have in common.
 -- Assumes nothing.
 use mathlib.Core.Path.{_≡_, refl, ap}
-use mathlib.Core.Bool.{Bool, true, false, _&&_, _||_}
+use mathlib.Core.Bool.{Bool, true, false, _&&_, _||_, false≢true}
 use mathlib.Core.List.{List, [], _∷_}
-use Prim.Native.Nat.{ℕ, _-_, _%_, _≤_}
+use Prim.Native.Nat.{ℕ, zero, suc, _-_, _%_, _≤_}
 use native.Mathlib.Omega.{arith}
 use borrow.Author.Tests.{leb-true}
 use lib.Dec.{T, eqb, leb}
 use lib.ListN.{length, getD}
 use Rattle.octets.proofs.Tests.{agree, same}
 use Rattle.fips197.specs.Schedule.{isKey}
-use Rattle.cba_mode.specs.Sets.{isSet, column, keyBytes, ell, Fits}
+use Rattle.cba_mode.specs.Sets.{isSet, column, capacity, keyBytes, ell, Fits}
 
 picked : Bool → ℕ
 picked true = 0
@@ -48,6 +48,22 @@ set-fits set h =
     let e₁ = ap (λ (l : List ℕ). getD l 1 0) e in
     let e₂ = ap (λ (l : List ℕ). getD l 2 0) e in
     (omega (arith, e₀), omega (arith, e₁), omega (arith, e₂), ap (λ (l : List ℕ). getD l 3 0) e)
+
+-- the least capacity is 16; set 0 is no set, and has 0 there
+least : ℕ → List ℕ
+least n = (16 - column 2 (suc n)) ∷ []
+
+least-test : T (agree least (λ n. 0 ∷ []) 10)
+unfolding least column
+least-test = tt
+
+pub capacity-least : (set : ℕ) → isSet set ≡ true → 16 ≤ capacity set
+unfolding isSet least
+capacity-least zero h = absurd (false≢true h)
+capacity-least (suc n) h =
+    let k = at-most-ten (suc n) h in
+    let e = ap (λ (l : List ℕ). getD l 0 0) (same least (λ n. 0 ∷ []) 10 least-test n (omega arith)) in
+    omega (arith, e)
 
 pub key-most : (set : ℕ) → isSet set ≡ true → keyBytes set ≤ 32
 unfolding bounds zeros

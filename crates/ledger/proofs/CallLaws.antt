@@ -1,33 +1,37 @@
 -- A making and a sealing on a ledger whose set is known: the checks in their groups, and the call.
 -- Assumes nothing.
 use mathlib.Core.Path.{_≡_, refl, sym, ap, subst, _∙_}
-use mathlib.Core.List.{List, [], _∷_}
+use mathlib.Core.Bool.{not}
+use mathlib.Core.List.{List, [], _∷_, _++_}
 use Prim.Native.Nat.{ℕ, _/_, _≤_}
 use native.Mathlib.Omega.{arith}
+use borrow.Author.Tests.{ne-eqb}
 use lib.ListN.{length, take}
 use lib.Seq.{length-take-le}
 use Rattle.answers.specs.Rows.{answer, firstOf, numbers, isIn, ownNumbers}
-use Rattle.answers.proofs.RowLaws.{joined}
+use Rattle.answers.proofs.RowLaws.{refuses, accepts, passed, joined, stops, goes-on}
 use Rattle.cba_mode.specs.Sets.{keyBytes, tagBytes}
 use Rattle.cba_mode.specs.Charge.{charge}
 use Rattle.cba_rules.specs.Checks.{setTag, badKey, badNonce, longData, messageRows}
 use Rattle.cba_rules.specs.Refusals.{SealCall}
 use Rattle.cba_rules.proofs.SetLaws.{key-most}
+use Rattle.cba_rules.proofs.RefusalLaws.{is-length, has-length}
 use Rattle.cba_steps.specs.declared.parameters.Parameters.{Parameters}
 use Rattle.plain.specs.declared.sets.Set.the-variants.{Known, Unknown}
 use Rattle.plain.specs.Lookup.{lookupOf}
 use Rattle.plain.proofs.SetLaws.{is-known, is-unknown, its-key, its-tag}
-use Rattle.ledger_rules.specs.Ledger.{Ledger, noLedger, fresh, makeRows, makeAnswer, madeLedger, keyOf, stale, spent, ownRows, ledgerChecks, ledgerRows, ledgerAnswer, charged, LedgerCall}
-use Rattle.ledger_rules.proofs.LedgerLaws.{make-accepted, made-none, made-fresh, ledger-first, ledger-own, ledger-refused, ledger-sealed}
+use Rattle.ledger_rules.specs.Ledger.{Ledger, noLedger, fresh, makeRows, makeAnswer, madeLedger, keyOf, consoleOf, badConsole, nonceRows, stale, spent, ownRows, ledgerChecks, ledgerRows, ledgerAnswer, charged, LedgerCall}
+use Rattle.ledger_rules.proofs.LedgerLaws.{make-accepted, made-none, made-fresh, ledger-known, ledger-refused, ledger-sealed}
 
 -- ---- making
 
 -- a refused making, and an accepted one
-pub refused-making : (set r : ℕ) (key : List ℕ) (l : Ledger) → r ≡ makeAnswer set key → (r ≡ 0 → ⊥) → l ≡ noLedger → (r ≡ makeAnswer set key) × (l ≡ madeLedger set key)
-refused-making set r key l e n f = (e, f ∙ sym (made-none set key (λ z. n (e ∙ z))))
+module _ (set : ℕ) (key : List ℕ) (console : ℕ) (l : Ledger) where
+  pub refused-making : (r : ℕ) → r ≡ makeAnswer set key → (r ≡ 0 → ⊥) → l ≡ noLedger → (r ≡ makeAnswer set key) × (l ≡ madeLedger set key console)
+  refused-making r e n f = (e, f ∙ sym (made-none set key console (λ z. n (e ∙ z))))
 
-pub accepted-making : (set : ℕ) (key : List ℕ) (l : Ledger) → makeAnswer set key ≡ 0 → l ≡ fresh set key → (0 ≡ makeAnswer set key) × (l ≡ madeLedger set key)
-accepted-making set key l e f = (sym e, f ∙ sym (made-fresh set key e))
+  pub accepted-making : makeAnswer set key ≡ 0 → l ≡ fresh set key console → (0 ≡ makeAnswer set key) × (l ≡ madeLedger set key console)
+  accepted-making e f = (sym e, f ∙ sym (made-fresh set key console e))
 
 pub make-unknown : (set : ℕ) (key : List ℕ) → lookupOf set ≡ Unknown → 1 ≡ makeAnswer set key
 unfolding makeAnswer makeRows answer
@@ -42,23 +46,52 @@ made-key set key e = let a = make-accepted set key e in omega (arith, a .1, key-
 
 -- ---- sealing
 
-module _ {a b c x r : ℕ} (t nonce ad message room : ℕ) where
-  pub groups : x ≡ firstOf a b → r ≡ firstOf x c → a ≡ answer (badNonce nonce ∷ []) → b ≡ answer (longData ad ∷ []) → c ≡ answer (messageRows t message room) →
-      r ≡ answer (ledgerChecks t nonce ad message room)
+-- 3, then 12: s is the number that the nonce begins with
+module _ {r : ℕ} (console : ℕ) (N : List ℕ) (e : r ≡ answer (badNonce (length N) ∷ [])) where
+  pub nonce-refused : (r ≡ 0 → ⊥) → r ≡ answer (nonceRows console N)
   unfolding numbers isIn ownNumbers
-  groups i j e f g = joined (badNonce nonce ∷ longData ad ∷ []) (messageRows t message room) refl j (joined (badNonce nonce ∷ []) (longData ad ∷ []) refl i e f) g
+  nonce-refused n = stops (badNonce (length N) ∷ []) (badConsole console N ∷ []) refl e n
+
+  pub nonce-length : r ≡ 0 → length N ≡ 12
+  unfolding numbers isIn ownNumbers
+  nonce-length z = is-length (length N) 12 (passed (badNonce (length N) ∷ []) refl (sym e ∙ z) .0)
+
+  pub console-refused : {s : ℕ} → r ≡ 0 → s ≡ consoleOf N → (s ≡ console → ⊥) → 12 ≡ answer (nonceRows console N)
+  unfolding numbers isIn ownNumbers
+  console-refused z f n =
+      goes-on (badNonce (length N) ∷ []) (badConsole console N ∷ []) refl e z
+      (sym (refuses [] (badConsole console N) [] tt (ap not (ne-eqb (consoleOf N) console (λ k. n (f ∙ k))))))
+
+  pub console-passed : {s : ℕ} → r ≡ 0 → s ≡ consoleOf N → s ≡ console → 0 ≡ answer (nonceRows console N)
+  unfolding numbers isIn ownNumbers
+  console-passed z f k =
+      goes-on (badNonce (length N) ∷ []) (badConsole console N ∷ []) refl e z
+      (sym (accepts (badConsole console N ∷ []) (has-length (consoleOf N) console (sym f ∙ k), tt)))
+
+module _ {a b c x r : ℕ} (t console : ℕ) (N : List ℕ) (ad message room : ℕ) where
+  pub groups : x ≡ firstOf a b → r ≡ firstOf x c → a ≡ answer (nonceRows console N) → b ≡ answer (longData ad ∷ []) →
+      c ≡ answer (messageRows t message room) → r ≡ answer (ledgerChecks t console N ad message room)
+  unfolding numbers isIn ownNumbers
+  groups i j e f g =
+      joined (nonceRows console N ++ (longData ad ∷ [])) (messageRows t message room) refl j (joined (nonceRows console N) (longData ad ∷ []) refl i e f) g
 
 module _ (l : Ledger) (p : Parameters) (known : lookupOf (l .set) ≡ Known p) (N : List ℕ) (ad message room r : ℕ) where
   -- the checks by p's t are those by the set's
-  its-checks : r ≡ answer (ledgerChecks (tagBytes (p .tau)) (length N) ad message room) → r ≡ answer (ledgerChecks (setTag (l .set)) (length N) ad message room)
-  its-checks e = e ∙ ap (λ (t : ℕ). answer (ledgerChecks t (length N) ad message room)) (its-tag (l .set) p known)
+  its-checks : r ≡ answer (ledgerChecks (tagBytes (p .tau)) (l .console) N ad message room) → r ≡ answer (ledgerChecks (setTag (l .set)) (l .console) N ad message room)
+  its-checks e = e ∙ ap (λ (t : ℕ). answer (ledgerChecks t (l .console) N ad message room)) (its-tag (l .set) p known)
 
-  pub first-refuses : r ≡ answer (ledgerChecks (tagBytes (p .tau)) (length N) ad message room) → (r ≡ 0 → ⊥) → r ≡ ledgerAnswer l N ad message room
-  first-refuses e n = let k = its-checks e in k ∙ sym (ledger-first l N ad message room (is-known (l .set) p known) (λ z. n (k ∙ z)))
+  pub first-refuses : r ≡ answer (ledgerChecks (tagBytes (p .tau)) (l .console) N ad message room) → (r ≡ 0 → ⊥) → r ≡ ledgerAnswer l N ad message room
+  unfolding numbers isIn ownNumbers
+  first-refuses e n =
+      stops (ledgerChecks (setTag (l .set)) (l .console) N ad message room) (ownRows (stale l N) (spent l (charge ad message))) refl (its-checks e) n
+      ∙ sym (ledger-known l N ad message room (is-known (l .set) p known))
 
-  pub own-decides : (a : ℕ) → r ≡ answer (ledgerChecks (tagBytes (p .tau)) (length N) ad message room) → r ≡ 0 →
+  pub own-decides : (a : ℕ) → r ≡ answer (ledgerChecks (tagBytes (p .tau)) (l .console) N ad message room) → r ≡ 0 →
       a ≡ answer (ownRows (stale l N) (spent l (charge ad message))) → a ≡ ledgerAnswer l N ad message room
-  own-decides a e z f = f ∙ sym (ledger-own l N ad message room (is-known (l .set) p known) (sym (its-checks e) ∙ z))
+  unfolding numbers isIn ownNumbers
+  own-decides a e z f =
+      goes-on (ledgerChecks (setTag (l .set)) (l .console) N ad message room) (ownRows (stale l N) (spent l (charge ad message))) refl (its-checks e) z f
+      ∙ sym (ledger-known l N ad message room (is-known (l .set) p known))
 
 pub unknown-refused : (l : Ledger) (N A M out : List ℕ) → lookupOf (l .set) ≡ Unknown → LedgerCall l N A M out 1 l out
 unfolding ledgerAnswer ledgerRows answer

@@ -1,11 +1,11 @@
--- Nonces compared as numbers, and a charge against what is left of the capacity.
+-- The number that a nonce begins with, nonces compared as numbers, and a charge against what is left of the capacity.
 -- Assumes nothing.
 use mathlib.Core.Path.{_≡_, refl, sym, ap, ap₂, _∙_}
 use mathlib.Core.Bool.{Bool, true, false, not}
 use mathlib.Core.List.{List}
 use mathlib.Core.Logic.{⊎-elim}
 use Prim.Native.Nat.{ℕ, _+_, _-_, _*_, _%_, _^_, _<_, _≤_}
-use native.Mathlib.Nat.{mod-eq-of-lt, one-mul, le-antisymm}
+use native.Mathlib.Nat.{mod-eq-of-lt, zero-add, one-mul, le-antisymm}
 use native.Mathlib.Omega.{arith}
 use borrow.Author.Tests.{eq-eqb, ne-eqb, lt-ltb, le-ltb, le-leb, lt-leb, eqb-true, eqb-false}
 use lib.Dec.{eqb, ltb, leb}
@@ -17,7 +17,7 @@ use Rattle.octets.proofs.Numbers.{number-more}
 use Rattle.octets.proofs.Tests.{le-or-lt}
 use Rattle.answers.proofs.RowLaws.{not-false, not-true}
 use Rattle.cba_mode.specs.Sets.{capacity}
-use Rattle.ledger_rules.specs.Ledger.{Ledger, stale, spent}
+use Rattle.ledger_rules.specs.Ledger.{Ledger, consoleOf, stale, spent}
 
 -- ---- the capacity
 
@@ -38,6 +38,10 @@ goes-in b total charge h k =
     (le-or-lt charge (2 ^ b - total)))
 
 -- ---- nonces
+
+pub console-start : (N : List ℕ) → length N ≡ 12 → getD N 0 0 * 256 + getD N 1 0 ≡ consoleOf N
+unfolding consoleOf number
+console-start N h = sym (number-more N 1 (omega (arith, h)) ∙ ap (λ (x : ℕ). x * 256 + getD N 1 0) (number-more N 0 (omega (arith, h)) ∙ zero-add (getD N 0 0)))
 
 -- after i bytes of a and b: whether a is above, and whether they are the same so far
 pub record Ordered (a b : List ℕ) (i : ℕ) (above same : Bool) : Type 0 where

@@ -7,7 +7,7 @@ use Rattle.ledger_rules.specs.Ledger.{LedgerCall}
 use Rattle.ledger_rules.specs.Ledger as rules
 
 abbrev pub valueOf : Ledger → rules.Ledger
-valueOf l = record { set = l .set; key = l .key; total = l .total; begun = l .begun; last = l .last }
+valueOf l = record { set = l .set; key = l .key; console = l .console; total = l .total; begun = l .begun; last = l .last }
 
 -- a sealing: its answer r, the next ledger l′, and out′, the output at exit
 abbrev pub Ran : Ledger → List ℕ → List ℕ → List ℕ → List ℕ → ℕ → Ledger → List ℕ → Type 0

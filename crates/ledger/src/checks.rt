@@ -1,4 +1,4 @@
-// What a ledger checks: nonces as numbers, and the charge against the capacity.
+// What a ledger checks: the nonce's start, nonces as numbers, and the charge against the capacity.
 ghost use mathlib.Core.Path.{_≡_};
 ghost use mathlib.Core.Bool.{not};
 ghost use Prim.Native.Nat.{_+_, _^_, _≤_};
@@ -6,6 +6,15 @@ ghost use lib.Dec.{ltb};
 ghost use lib.ListN.{length};
 ghost use Rattle.octets.specs.Numbers.{number};
 ghost use Rattle.cba_mode.specs.Charge.{charge};
+ghost use Rattle.ledger_rules.specs.Ledger.{consoleOf};
+
+// The console number that a nonce begins with.
+pub fn console_of(nonce: &[u8]) -> u16
+    requires { ⌜ length (now nonce) ≡ 12 ⌝ }
+    ensures { λ r. ⌜ r ≡ consoleOf (now (nonce .entry)) ⌝ }
+{
+    (nonce[0] as u16) * 256 + nonce[1] as u16
+}
 
 // Whether a nonce is above another, as big-endian numbers.
 pub fn above(nonce: &[u8], last: &[u8]) -> bool

@@ -1,6 +1,7 @@
 // A ledger is a value: each call returns the next one.
 use crate::checks::above;
 use crate::checks::charge;
+use crate::checks::console_of;
 use crate::checks::fits;
 use cba_steps::Parameters;
 use plain::Set;
@@ -11,20 +12,24 @@ use plain::lookup;
 use plain::message_check;
 use plain::nonce_check;
 ghost use mathlib.Core.Path.{_≡_};
-ghost use Prim.Native.Nat.{_+_, _-_, _^_, _≤_, _<_};
+ghost use Prim.Native.Nat.{_+_, _^_, _≤_, _<_};
 ghost use lib.ListN.{length};
 ghost use Rattle.answers.specs.Rows.{answer};
 ghost use Rattle.cba_mode.specs.Sets.{tagBytes};
 ghost use Rattle.plain.specs.declared.sets.Set.the-variants.{Known};
 ghost use Rattle.plain.specs.Lookup.{lookupOf};
-ghost use Rattle.ledger_rules.specs.Ledger.{noLedger, fresh, makeAnswer, madeLedger, stale, spent, ownRows, ledgerChecks, charged, ledgerAnswer};
+ghost use Rattle.ledger_rules.specs.Ledger.{noLedger, fresh, makeAnswer, madeLedger, nonceRows, stale, spent, ownRows, ledgerChecks, charged, ledgerAnswer};
 ghost use Rattle.ledger.specs.Values.{valueOf, Ran};
 
-// The set, the key with zeros after it up to 32 bytes, the total of blocks charged, and the last
-// accepted nonce, where one has begun it.
+// The set, the key with zeros after it up to 32 bytes, the number of the console that seals, the
+// total of blocks charged, and the last accepted nonce, where one has begun it.
+//
+// Several consoles may seal under one key, each with a ledger. That their numbers differ and that
+// their totals stay at 2^b together is the hub's to see to: a ledger sees itself alone.
 pub struct Ledger {
     pub set: u32,
     pub key: [u8; 32],
+    pub console: u16,
     pub total: u64,
     pub begun: bool,
     pub last: [u8; 12],
@@ -49,6 +54,7 @@ fn none() -> Ledger
     Ledger {
         set: 0,
         key: [0; 32],
+        console: 0,
         total: 0,
         begun: false,
         last: [0; 12],
@@ -56,25 +62,26 @@ fn none() -> Ledger
 }
 
 // A fresh ledger.
-fn begin(set: u32, key: &[u8]) -> Ledger
+fn begin(set: u32, key: &[u8], console: u16) -> Ledger
     requires { ⌜ length (now key) ≤ 32 ⌝ }
-    ensures { λ r. ⌜ valueOf r ≡ fresh set (now (key .entry)) ⌝ }
+    ensures { λ r. ⌜ valueOf r ≡ fresh set (now (key .entry)) console ⌝ }
 {
     let mut k = [0u8; 32];
     octets::put(&mut k, key);
     Ledger {
         set: set,
         key: k,
+        console: console,
         total: 0,
         begun: false,
         last: [0; 12],
     }
 }
 
-// Makes the ledger of a key, and answers 0, or answers 1 or 2.
-pub fn make(set: u32, key: &[u8]) -> Made
+// Makes the ledger of a key and a console, and answers 0, or answers 1 or 2.
+pub fn make(set: u32, key: &[u8], console: u16) -> Made
     ensures { λ r. ⌜ r .answer ≡ makeAnswer set (now (key .entry)) ⌝ }
-    ensures { λ r. ⌜ valueOf (r .ledger) ≡ madeLedger set (now (key .entry)) ⌝ }
+    ensures { λ r. ⌜ valueOf (r .ledger) ≡ madeLedger set (now (key .entry)) console ⌝ }
 {
     let Set::Known(p) = lookup(set) else {
         return Made {
@@ -91,7 +98,7 @@ pub fn make(set: u32, key: &[u8]) -> Made
     }
     Made {
         answer: 0,
-        ledger: begin(set, key),
+        ledger: begin(set, key, console),
     }
 }
 
@@ -122,11 +129,32 @@ fn own_check(l: Ledger, p: Parameters, nonce: &[u8], charge: u64) -> u32
     0
 }
 
-// The checks that a ledger shares with plain sealing, after the set's.
-fn first_checks(p: Parameters, nonce: usize, ad: usize, message: usize, room: usize) -> u32
-    ensures { λ r. ⌜ r ≡ answer (ledgerChecks (tagBytes (p .tau)) nonce ad message room) ⌝ }
+// 3 and 12.
+fn nonce_checks(console: u16, nonce: &[u8]) -> u32
+    ensures { λ r. ⌜ r ≡ answer (nonceRows console (now (nonce .entry))) ⌝ }
 {
-    let a = first_of(nonce_check(nonce), ad_check(ad));
+    let refusal = nonce_check(nonce.len());
+    if refusal != 0 {
+        return refusal;
+    }
+    if console_of(nonce) != console {
+        return 12;
+    }
+    0
+}
+
+// The checks after the set's and before the ledger's own.
+fn first_checks(
+    console: u16,
+    p: Parameters,
+    nonce: &[u8],
+    ad: usize,
+    message: usize,
+    room: usize,
+) -> u32
+    ensures { λ r. ⌜ r ≡ answer (ledgerChecks (tagBytes (p .tau)) console (now (nonce .entry)) ad message room) ⌝ }
+{
+    let a = first_of(nonce_checks(console, nonce), ad_check(ad));
     first_of(a, message_check(p, message, room))
 }
 
@@ -135,7 +163,7 @@ fn checked(l: Ledger, p: Parameters, nonce: &[u8], ad: usize, message: usize, ro
     requires { ⌜ lookupOf (l .set) ≡ Known p ⌝ }
     ensures { λ r. ⌜ r ≡ ledgerAnswer (valueOf l) (now (nonce .entry)) ad message room ⌝ }
 {
-    let refusal = first_checks(p, nonce.len(), ad, message, room);
+    let refusal = first_checks(l.console, p, nonce, ad, message, room);
     if refusal != 0 {
         return refusal;
     }
@@ -149,14 +177,11 @@ fn next(l: Ledger, nonce: &[u8], charge: u64) -> Ledger
 {
     let mut last = [0u8; 12];
     octets::put(&mut last, nonce);
-    let key = l.key;
-    Ledger {
-        set: l.set,
-        key: key,
-        total: l.total + charge,
-        begun: true,
-        last: last,
-    }
+    let mut after = l;
+    after.total = l.total + charge;
+    after.begun = true;
+    after.last = last;
+    after
 }
 
 // The sealing of an input that no check refuses.
@@ -186,7 +211,8 @@ fn accepted(
 
 impl Ledger {
     // Seals message over the first bytes of out under the ledger's key, answers 0 and gives back the
-    // next ledger; or answers 1, 3, 4, 5, 7, 9 or 10, and ledger and out are as they were.
+    // next ledger; or answers the first that applies of 1, 3, 12, 4, 5, 7, 9 and 10, and ledger and
+    // out are as they were.
     pub fn sealed(self, nonce: &[u8], ad: &[u8], message: &[u8], out: &mut [u8]) -> Sealed
         ensures { λ r. ⌜
             Ran self (now (nonce .entry)) (now (ad .entry)) (now (message .entry)) (now (out .entry)) (r .answer) (r .ledger) (now (out .exit))

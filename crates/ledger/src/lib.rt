@@ -1,4 +1,5 @@
-// The key ledger: what is used of a key's capacity, and the last nonce, above plain sealing.
+// The key ledger: a console's number, what it has used of a key's capacity, and its last nonce,
+// above plain sealing.
 mod checks;
 mod ledger;
 

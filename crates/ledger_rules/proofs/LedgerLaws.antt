@@ -1,24 +1,24 @@
 -- What a making and a sealing on a ledger answer, and what they leave.
 -- Assumes nothing.
-use mathlib.Core.Path.{_≡_, refl, sym, ap, _∙_}
-use mathlib.Core.Bool.{true, false, cond, not}
+use mathlib.Core.Path.{_≡_, refl, sym, ap, subst, _∙_}
+use mathlib.Core.Bool.{Bool, true, false, cond, not, false≢true}
 use mathlib.Core.List.{List, _∷_, _++_}
 use Prim.Native.Nat.{ℕ, _+_, _^_, _<_, _≤_}
 use native.Mathlib.Omega.{arith}
 use borrow.Author.Tests.{ne-eqb, ltb-false, le-ltb}
 use lib.Dec.{eqb}
 use lib.ListN.{length}
-use lib.Pow.{pow-lt}
+use lib.Pow.{pow-lt, pow-mono}
 use lib.Seq.{length-take-le}
-use Rattle.answers.specs.Rows.{Row, answer, firstOf, Passes, numbers, isIn, ownNumbers, Decides}
-use Rattle.answers.proofs.RowLaws.{not-false, accepts, passes-parts, passed, decides, two-parts}
+use Rattle.answers.specs.Rows.{Row, answer, Passes, numbers, isIn, ownNumbers, Decides}
+use Rattle.answers.proofs.RowLaws.{not-false, accepts, passes-parts, passed, decides, goes-on}
 use Rattle.cba_mode.specs.Sets.{isSet, keyBytes, capacity}
 use Rattle.cba_mode.specs.Charge.{charge}
 use Rattle.cba_rules.specs.Checks.{setTag, badSet}
 use Rattle.cba_rules.specs.Refusals.{sealing, sealAnswer, sealLeaves, sealOutput, SealCall}
-use Rattle.cba_rules.proofs.SetLaws.{set-fits}
+use Rattle.cba_rules.proofs.SetLaws.{set-fits, capacity-least}
 use Rattle.cba_rules.proofs.RefusalLaws.{Seals, is-length, has-length, message-passes, message-passed, seal-untouched, seal-accepts}
-use Rattle.ledger_rules.specs.Ledger.{Ledger, noLedger, fresh, makeRows, makeAnswer, madeLedger, keyOf, stale, spent, ownRows, ledgerChecks, ledgerRows, ledgerAnswer, charged, nextLedger, ledgerOutput, LedgerCall}
+use Rattle.ledger_rules.specs.Ledger.{Ledger, noLedger, fresh, makeRows, makeAnswer, madeLedger, keyOf, consoleOf, stale, spent, ownRows, ledgerChecks, ledgerRows, ledgerAnswer, charged, nextLedger, ledgerOutput, LedgerCall}
 
 -- ---- making
 
@@ -34,71 +34,76 @@ module _ (set : ℕ) (key : List ℕ) where
       (not-false (isSet set) (p .0), is-length (length key) (keyBytes set) (p .1 .0))
 
   -- a ledger that is not refused is fresh, and one that is refused is none
-  pub made-fresh : makeAnswer set key ≡ 0 → madeLedger set key ≡ fresh set key
+  pub made-fresh : (console : ℕ) → makeAnswer set key ≡ 0 → madeLedger set key console ≡ fresh set key console
   unfolding madeLedger
-  made-fresh e = ap (λ (a : ℕ). cond (eqb a 0) (fresh set key) noLedger) e
+  made-fresh console e = ap (λ (a : ℕ). cond (eqb a 0) (fresh set key console) noLedger) e
 
-  pub made-none : (makeAnswer set key ≡ 0 → ⊥) → madeLedger set key ≡ noLedger
+  pub made-none : (console : ℕ) → (makeAnswer set key ≡ 0 → ⊥) → madeLedger set key console ≡ noLedger
   unfolding madeLedger
-  made-none n = rw (ne-eqb (makeAnswer set key) 0 n) refl
+  made-none console n = rw (ne-eqb (makeAnswer set key) 0 n) refl
 
 -- ---- sealing
 
--- what the checks before the ledger's own say
-pub record Ready (t nonce ad message out : ℕ) : Type 0 where
-  pub nonce-length : nonce ≡ 12
-  pub data-limit : ad ≤ 4096
-  pub seals : Seals t message out
+module _ (t console : ℕ) (N : List ℕ) (ad message out : ℕ) where
+  -- what the checks before the ledger's own say
+  pub record Ready : Type 0 where
+    pub nonce-length : length N ≡ 12
+    pub begins : consoleOf N ≡ console
+    pub data-limit : ad ≤ 4096
+    pub seals : Seals t message out
 
-ready-passes : (t nonce ad message out : ℕ) → Ready t nonce ad message out → Passes (ledgerChecks t nonce ad message out)
-ready-passes t nonce ad message out r = (has-length nonce 12 (r .nonce-length), (le-ltb 4096 ad (r .data-limit), message-passes t message out (r .seals)))
+  ready-passes : Ready → Passes (ledgerChecks t console N ad message out)
+  ready-passes r = (
+    has-length (length N) 12 (r .nonce-length),
+    (has-length (consoleOf N) console (r .begins), (le-ltb 4096 ad (r .data-limit), message-passes t message out (r .seals))),
+  )
 
-ready-passed : (t nonce ad message out : ℕ) → Passes (ledgerChecks t nonce ad message out) → Ready t nonce ad message out
-ready-passed t nonce ad message out p =
-    record { nonce-length = is-length nonce 12 (p .0); data-limit = ltb-false 4096 ad (p .1 .0); seals = message-passed t message out (p .1 .1) }
+  ready-passed : Passes (ledgerChecks t console N ad message out) → Ready
+  ready-passed p =
+      record {
+        nonce-length = is-length (length N) 12 (p .0);
+        begins = is-length (consoleOf N) console (p .1 .0);
+        data-limit = ltb-false 4096 ad (p .1 .1 .0);
+        seals = message-passed t message out (p .1 .1 .1);
+      }
 
-pub ready-if : (t nonce ad message out : ℕ) → answer (ledgerChecks t nonce ad message out) ≡ 0 → Ready t nonce ad message out
-unfolding numbers isIn ownNumbers
-ready-if t nonce ad message out e = ready-passed t nonce ad message out (passed (ledgerChecks t nonce ad message out) refl e)
+  pub ready-if : answer (ledgerChecks t console N ad message out) ≡ 0 → Ready
+  unfolding numbers isIn ownNumbers
+  ready-if e = ready-passed (passed (ledgerChecks t console N ad message out) refl e)
 
 module _ (l : Ledger) (N : List ℕ) (ad message out : ℕ) where
   abbrev checks : List Row
-  checks = ledgerChecks (setTag (l .set)) (length N) ad message out
+  checks = ledgerChecks (setTag (l .set)) (l .console) N ad message out
 
   abbrev own : List Row
   own = ownRows (stale l N) (spent l (charge ad message))
 
   -- on a set, the checks before the ledger's own, then those
-  ledger-parts : isSet (l .set) ≡ true → ledgerAnswer l N ad message out ≡ firstOf (answer checks) (answer own)
-  unfolding ledgerAnswer ledgerRows answer numbers isIn ownNumbers
-  ledger-parts s = rw s (two-parts checks own refl)
+  pub ledger-known : isSet (l .set) ≡ true → ledgerAnswer l N ad message out ≡ answer (checks ++ own)
+  unfolding ledgerAnswer ledgerRows answer
+  ledger-known s = rw s refl
 
-  pub ledger-first : isSet (l .set) ≡ true → (answer checks ≡ 0 → ⊥) → ledgerAnswer l N ad message out ≡ answer checks
-  unfolding firstOf
-  ledger-first s n = ledger-parts s ∙ rw (ne-eqb (answer checks) 0 n) refl
+  ledger-own : {a : ℕ} → isSet (l .set) ≡ true → Ready (setTag (l .set)) (l .console) N ad message out → a ≡ answer own → ledgerAnswer l N ad message out ≡ a
+  unfolding numbers isIn ownNumbers
+  ledger-own s r e = ledger-known s ∙ sym (goes-on checks own refl (sym (accepts checks (ready-passes (setTag (l .set)) (l .console) N ad message out r))) refl e)
 
-  pub ledger-own : isSet (l .set) ≡ true → answer checks ≡ 0 → ledgerAnswer l N ad message out ≡ answer own
-  unfolding firstOf
-  ledger-own s e = ledger-parts s ∙ rw e refl
-
-  pub ledger-decides : Decides (ledgerRows (l .set) (length N) ad message out (stale l N) (spent l (charge ad message))) (ledgerAnswer l N ad message out)
+  pub ledger-decides : Decides (ledgerRows l N ad message out) (ledgerAnswer l N ad message out)
   unfolding ledgerAnswer ledgerRows numbers isIn ownNumbers
   ledger-decides = decides (badSet (l .set) ∷ (checks ++ own)) refl
 
-  pub ledger-accepts : isSet (l .set) ≡ true → Ready (setTag (l .set)) (length N) ad message out → stale l N ≡ false → spent l (charge ad message) ≡ false →
+  pub ledger-accepts : isSet (l .set) ≡ true → Ready (setTag (l .set)) (l .console) N ad message out → stale l N ≡ false → spent l (charge ad message) ≡ false →
       ledgerAnswer l N ad message out ≡ 0
-  unfolding answer
-  ledger-accepts s r x y = ledger-own s (accepts checks (ready-passes (setTag (l .set)) (length N) ad message out r)) ∙ rw (x, y) refl
+  ledger-accepts s r x y = ledger-own s r (sym (accepts own (x, (y, tt))))
 
-  pub ledger-spent : isSet (l .set) ≡ true → Ready (setTag (l .set)) (length N) ad message out → stale l N ≡ false → spent l (charge ad message) ≡ true →
+  pub ledger-spent : isSet (l .set) ≡ true → Ready (setTag (l .set)) (l .console) N ad message out → stale l N ≡ false → spent l (charge ad message) ≡ true →
       ledgerAnswer l N ad message out ≡ 10
   unfolding answer
-  ledger-spent s r x y = ledger-own s (accepts checks (ready-passes (setTag (l .set)) (length N) ad message out r)) ∙ rw (x, y) refl
+  ledger-spent s r x y = ledger-own s r (rw (x, y) refl)
 
   -- what an acceptance says
   pub record Accepted : Type 0 where
     pub is-set : isSet (l .set) ≡ true
-    pub ready : Ready (setTag (l .set)) (length N) ad message out
+    pub ready : Ready (setTag (l .set)) (l .console) N ad message out
     pub not-stale : stale l N ≡ false
     pub not-spent : spent l (charge ad message) ≡ false
 
@@ -109,7 +114,7 @@ module _ (l : Ledger) (N : List ℕ) (ad message out : ℕ) where
       let q = passes-parts checks own (p .1) in
       record {
         is-set = not-false (isSet (l .set)) (p .0);
-        ready = ready-passed (setTag (l .set)) (length N) ad message out (q .0);
+        ready = ready-passed (setTag (l .set)) (l .console) N ad message out (q .0);
         not-stale = q .1 .0;
         not-spent = q .1 .1 .0;
       }
@@ -171,3 +176,30 @@ module _ (l : Ledger) (N A M out : List ℕ) where
         next-is = el ∙ sym (next-accepted l N (length A) (length M) (length out) e);
         output-is = call .1 ∙ sym (p .1);
       }
+
+-- ---- a fresh ledger
+
+module _ (set : ℕ) (key : List ℕ) (console : ℕ) (N : List ℕ) (ad message out : ℕ) where
+  made-new : stale (madeLedger set key console) N ≡ false
+  unfolding stale madeLedger
+  made-new = go (eqb (makeAnswer set key) 0)
+    where
+      go : (x : Bool) → stale (cond x (fresh set key console) noLedger) N ≡ false
+      go true = refl
+      go false = refl
+
+  pub never-stale : ledgerAnswer (madeLedger set key console) N ad message out ≡ 9 → ⊥
+  unfolding ledgerRows
+  never-stale e =
+      let l = madeLedger set key console in
+      let checks = badSet (l .set) ∷ ledgerChecks (setTag (l .set)) (l .console) N ad message out in
+      false≢true (sym made-new ∙ ledger-decides l N ad message out .refused checks _ _ refl e .1)
+
+  pub takes-first : makeAnswer set key ≡ 0 → length N ≡ 12 → consoleOf N ≡ console → ad ≤ 4096 → message ≤ 65536 → message + setTag set ≤ out →
+      ledgerAnswer (madeLedger set key console) N ad message out ≡ 0
+  unfolding stale spent charge
+  takes-first e n c a m o =
+      let s = make-accepted set key e .0 in
+      let k = pow-mono {i = 16} {j = capacity set} (capacity-least set s) in
+      subst (λ (l : Ledger). ledgerAnswer l N ad message out ≡ 0) (sym (made-fresh set key console e))
+      (ledger-accepts (fresh set key console) N ad message out s (record { nonce-length = n; begins = c; data-limit = a; seals = record { limit = m; room = o } }) refl (le-ltb (2 ^ capacity set) (0 + charge ad message) (omega (arith, k))))

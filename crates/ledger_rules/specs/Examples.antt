@@ -4,7 +4,7 @@ use mathlib.Core.Bool.{Bool, true, _&&_}
 use mathlib.Core.List.{List, [], _∷_, _++_}
 use Prim.Native.Nat.{ℕ, _-_}
 use lib.Dec.{eqb}
-use lib.ListN.{getD, replicate}
+use lib.ListN.{getD, take, replicate}
 use Rattle.answers.specs.Rows.{answer}
 use Rattle.ledger_rules.specs.Ledger.{Ledger, makeRows, ledgerAnswer}
 
@@ -16,38 +16,46 @@ unfoldable pub makesSo : List (List ℕ) → Bool
 makesSo [] = true
 makesSo (c ∷ cs) = eqb (answer (makeRows (getD c 1 0) (getD c 2 0))) (getD c 0 0) && makesSo cs
 
--- a nonce of so many bytes, zeros but for the last
-abbrev nonceOf : ℕ → ℕ → List ℕ
-nonceOf n last = replicate (n - 1) 0 ++ (last ∷ [])
+-- a nonce of so many bytes: the first two and the last, zeros between
+abbrev nonceOf : ℕ → ℕ → ℕ → ℕ → List ℕ
+nonceOf n first second last = take n (first ∷ second ∷ (replicate (n - 3) 0 ++ (last ∷ [])))
 
--- a ledger of a set and a total, begun, whose last nonce is the number 1
-abbrev at : ℕ → ℕ → Ledger
-at set total = record { set = set; key = replicate 32 0; total = total; begun = true; last = nonceOf 12 1 }
+-- a ledger of a set, a console and a total, begun, whose last nonce is the number 1: the nonce of another console, but for console 0
+abbrev at : ℕ → ℕ → ℕ → Ledger
+at set console total = record { set = set; key = replicate 32 0; console = console; total = total; begun = true; last = nonceOf 12 0 0 1 }
 
--- the answer, then set, total, the nonce's length and its last byte, data, message and room
+-- the answer, then set, console and total, the nonce's length, its first two bytes and its last, data, message and room
 abbrev pub sealings : List (List ℕ)
 sealings =
-    (0 ∷ 1 ∷ 61184 ∷ 12 ∷ 2 ∷ 4096 ∷ 65536 ∷ 65540 ∷ [])
-    ∷ (0 ∷ 1 ∷ 65536 ∷ 12 ∷ 2 ∷ 0 ∷ 0 ∷ 4 ∷ [])
-    ∷ (1 ∷ 0 ∷ 0 ∷ 12 ∷ 2 ∷ 0 ∷ 0 ∷ 16 ∷ [])
-    ∷ (1 ∷ 11 ∷ 0 ∷ 12 ∷ 2 ∷ 0 ∷ 0 ∷ 16 ∷ [])
-    ∷ (3 ∷ 1 ∷ 0 ∷ 11 ∷ 2 ∷ 0 ∷ 0 ∷ 16 ∷ [])
-    ∷ (3 ∷ 1 ∷ 0 ∷ 13 ∷ 2 ∷ 0 ∷ 0 ∷ 16 ∷ [])
-    ∷ (4 ∷ 1 ∷ 0 ∷ 12 ∷ 2 ∷ 4097 ∷ 0 ∷ 16 ∷ [])
-    ∷ (5 ∷ 1 ∷ 0 ∷ 12 ∷ 2 ∷ 0 ∷ 65537 ∷ 65541 ∷ [])
-    ∷ (7 ∷ 1 ∷ 0 ∷ 12 ∷ 2 ∷ 0 ∷ 1 ∷ 4 ∷ [])
-    ∷ (9 ∷ 1 ∷ 0 ∷ 12 ∷ 1 ∷ 0 ∷ 0 ∷ 16 ∷ [])
-    ∷ (10 ∷ 1 ∷ 65536 ∷ 12 ∷ 2 ∷ 0 ∷ 1 ∷ 16 ∷ [])
-    ∷ (10 ∷ 1 ∷ 65535 ∷ 12 ∷ 2 ∷ 1 ∷ 1 ∷ 16 ∷ [])
-    ∷ (1 ∷ 0 ∷ 65536 ∷ 11 ∷ 1 ∷ 4097 ∷ 65537 ∷ 0 ∷ [])
-    ∷ (3 ∷ 1 ∷ 65536 ∷ 11 ∷ 1 ∷ 4097 ∷ 65537 ∷ 0 ∷ [])
-    ∷ (4 ∷ 1 ∷ 65536 ∷ 12 ∷ 1 ∷ 4097 ∷ 65537 ∷ 0 ∷ [])
-    ∷ (5 ∷ 1 ∷ 65536 ∷ 12 ∷ 1 ∷ 4096 ∷ 65537 ∷ 0 ∷ [])
-    ∷ (7 ∷ 1 ∷ 65536 ∷ 12 ∷ 1 ∷ 4096 ∷ 65536 ∷ 0 ∷ [])
-    ∷ (9 ∷ 1 ∷ 65536 ∷ 12 ∷ 1 ∷ 4096 ∷ 65536 ∷ 65540 ∷ [])
+    (0 ∷ 1 ∷ 0 ∷ 61184 ∷ 12 ∷ 0 ∷ 0 ∷ 2 ∷ 4096 ∷ 65536 ∷ 65540 ∷ [])
+    ∷ (0 ∷ 1 ∷ 0 ∷ 65536 ∷ 12 ∷ 0 ∷ 0 ∷ 2 ∷ 0 ∷ 0 ∷ 4 ∷ [])
+    ∷ (0 ∷ 1 ∷ 258 ∷ 0 ∷ 12 ∷ 1 ∷ 2 ∷ 0 ∷ 0 ∷ 0 ∷ 4 ∷ [])
+    ∷ (0 ∷ 1 ∷ 65535 ∷ 0 ∷ 12 ∷ 255 ∷ 255 ∷ 0 ∷ 0 ∷ 0 ∷ 4 ∷ [])
+    ∷ (1 ∷ 0 ∷ 0 ∷ 0 ∷ 12 ∷ 0 ∷ 0 ∷ 2 ∷ 0 ∷ 0 ∷ 16 ∷ [])
+    ∷ (1 ∷ 11 ∷ 0 ∷ 0 ∷ 12 ∷ 0 ∷ 0 ∷ 2 ∷ 0 ∷ 0 ∷ 16 ∷ [])
+    ∷ (3 ∷ 1 ∷ 0 ∷ 0 ∷ 11 ∷ 0 ∷ 0 ∷ 2 ∷ 0 ∷ 0 ∷ 16 ∷ [])
+    ∷ (3 ∷ 1 ∷ 0 ∷ 0 ∷ 13 ∷ 0 ∷ 0 ∷ 2 ∷ 0 ∷ 0 ∷ 16 ∷ [])
+    ∷ (12 ∷ 1 ∷ 258 ∷ 0 ∷ 12 ∷ 2 ∷ 1 ∷ 2 ∷ 0 ∷ 0 ∷ 16 ∷ [])
+    ∷ (12 ∷ 1 ∷ 0 ∷ 0 ∷ 12 ∷ 1 ∷ 0 ∷ 2 ∷ 0 ∷ 0 ∷ 16 ∷ [])
+    ∷ (12 ∷ 1 ∷ 2 ∷ 0 ∷ 12 ∷ 0 ∷ 0 ∷ 2 ∷ 0 ∷ 0 ∷ 16 ∷ [])
+    ∷ (4 ∷ 1 ∷ 0 ∷ 0 ∷ 12 ∷ 0 ∷ 0 ∷ 2 ∷ 4097 ∷ 0 ∷ 16 ∷ [])
+    ∷ (5 ∷ 1 ∷ 0 ∷ 0 ∷ 12 ∷ 0 ∷ 0 ∷ 2 ∷ 0 ∷ 65537 ∷ 65541 ∷ [])
+    ∷ (7 ∷ 1 ∷ 0 ∷ 0 ∷ 12 ∷ 0 ∷ 0 ∷ 2 ∷ 0 ∷ 1 ∷ 4 ∷ [])
+    ∷ (9 ∷ 1 ∷ 0 ∷ 0 ∷ 12 ∷ 0 ∷ 0 ∷ 1 ∷ 0 ∷ 0 ∷ 16 ∷ [])
+    ∷ (10 ∷ 1 ∷ 0 ∷ 65536 ∷ 12 ∷ 0 ∷ 0 ∷ 2 ∷ 0 ∷ 1 ∷ 16 ∷ [])
+    ∷ (10 ∷ 1 ∷ 0 ∷ 65535 ∷ 12 ∷ 0 ∷ 0 ∷ 2 ∷ 1 ∷ 1 ∷ 16 ∷ [])
+    ∷ (1 ∷ 0 ∷ 1 ∷ 65536 ∷ 11 ∷ 0 ∷ 0 ∷ 1 ∷ 4097 ∷ 65537 ∷ 0 ∷ [])
+    ∷ (3 ∷ 1 ∷ 1 ∷ 65536 ∷ 11 ∷ 0 ∷ 0 ∷ 1 ∷ 4097 ∷ 65537 ∷ 0 ∷ [])
+    ∷ (12 ∷ 1 ∷ 1 ∷ 65536 ∷ 12 ∷ 0 ∷ 0 ∷ 1 ∷ 4097 ∷ 65537 ∷ 0 ∷ [])
+    ∷ (4 ∷ 1 ∷ 0 ∷ 65536 ∷ 12 ∷ 0 ∷ 0 ∷ 1 ∷ 4097 ∷ 65537 ∷ 0 ∷ [])
+    ∷ (5 ∷ 1 ∷ 0 ∷ 65536 ∷ 12 ∷ 0 ∷ 0 ∷ 1 ∷ 4096 ∷ 65537 ∷ 0 ∷ [])
+    ∷ (7 ∷ 1 ∷ 0 ∷ 65536 ∷ 12 ∷ 0 ∷ 0 ∷ 1 ∷ 4096 ∷ 65536 ∷ 0 ∷ [])
+    ∷ (9 ∷ 1 ∷ 0 ∷ 65536 ∷ 12 ∷ 0 ∷ 0 ∷ 1 ∷ 4096 ∷ 65536 ∷ 65540 ∷ [])
     ∷ []
 
 unfoldable pub sealsSo : List (List ℕ) → Bool
 sealsSo [] = true
 sealsSo (c ∷ cs) =
-    eqb (ledgerAnswer (at (getD c 1 0) (getD c 2 0)) (nonceOf (getD c 3 0) (getD c 4 0)) (getD c 5 0) (getD c 6 0) (getD c 7 0)) (getD c 0 0) && sealsSo cs
+    let l = at (getD c 1 0) (getD c 2 0) (getD c 3 0) in
+    let N = nonceOf (getD c 4 0) (getD c 5 0) (getD c 6 0) (getD c 7 0) in
+    eqb (ledgerAnswer l N (getD c 8 0) (getD c 9 0) (getD c 10 0)) (getD c 0 0) && sealsSo cs

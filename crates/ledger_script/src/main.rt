@@ -2,9 +2,9 @@
 // field of the ledger after it and, of a sealing, the output.
 //
 // A record has 64 bytes, with numbers big-endian; bytes that are not named are not looked at.
-//   make: byte 0 is 0; 1..5 the set, 5 the key's length, 6.. the key
-//   put:  byte 0 is 1; 1..5 the set, 5..37 the key, 37..45 the total, 45 whether there is a last nonce,
-//         46..58 that nonce: the ledger is these values, whatever they are
+//   make: byte 0 is 0; 1..5 the set, 5..7 the console, 7 the key's length, 8.. the key
+//   put:  byte 0 is 1; 1..5 the set, 5..37 the key, 37..39 the console, 39..47 the total, 47 whether there
+//         is a last nonce, 48..60 that nonce: the ledger is these values, whatever they are
 //   seal: byte 0 is 2; 1 the nonce's length, 2..5, 5..8 and 8..11 the lengths of data, message and output,
 //         11 and 12 the seeds of data and message, 13.. the nonce
 //   lent: byte 0 is 3; the rest as for seal. The ledger is lent to the call, which changes it in place
@@ -26,6 +26,10 @@ fn least(a: usize, b: usize) -> usize
 
 fn number(a: u8, b: u8, c: u8, d: u8) -> u32 {
     (a as u32) * 16777216 + (b as u32) * 65536 + (c as u32) * 256 + (d as u32)
+}
+
+fn short_number(a: u8, b: u8) -> u16 {
+    (a as u16) * 256 + b as u16
 }
 
 fn long_number(high: u32, low: u32) -> u64 {
@@ -108,14 +112,17 @@ fn print_ledger(l: Ledger) {
     let last = l.last;
     print_number(l.set as u64);
     print_bytes(&key);
+    print_number(l.console as u64);
     print_number(l.total);
     print_number(l.begun as u64);
     print_bytes(&last);
 }
 
 fn made(r: [u8; 64]) -> Ledger {
-    let end = 6 + least(r[5] as usize, 58);
-    let m = ledger::make(number(r[1], r[2], r[3], r[4]), &r[6..end]);
+    let end = 8 + least(r[7] as usize, 56);
+    let set = number(r[1], r[2], r[3], r[4]);
+    let console = short_number(r[5], r[6]);
+    let m = ledger::make(set, &r[8..end], console);
     let l = m.ledger;
     print_make();
     print_number(m.answer as u64);
@@ -128,14 +135,15 @@ fn hand_made(r: [u8; 64]) -> Ledger {
     let mut key = [0u8; 32];
     let mut last = [0u8; 12];
     octets::put(&mut key, &r[5..37]);
-    octets::put(&mut last, &r[46..58]);
-    let high = number(r[37], r[38], r[39], r[40]);
-    let low = number(r[41], r[42], r[43], r[44]);
+    octets::put(&mut last, &r[48..60]);
+    let high = number(r[39], r[40], r[41], r[42]);
+    let low = number(r[43], r[44], r[45], r[46]);
     Ledger {
         set: number(r[1], r[2], r[3], r[4]),
         key: key,
+        console: short_number(r[37], r[38]),
         total: long_number(high, low),
-        begun: r[45] != 0,
+        begun: r[47] != 0,
         last: last,
     }
 }

@@ -6,7 +6,7 @@ use Rattle.ledger.proofs.ledger.begin.Statement.{statement}
 use Rattle.ledger.proofs.ledger.begin.Tie as tie
 
 returns : tie.Need-returns
-returns c = fresh-key (c .before .before .before .before .args .set) (c .before .before .before .before .args .key .now) _ (c .before .put .ensures)
+returns c = fresh-key (c .before .before .before .before .args .set) (c .before .before .before .before .args .key .now) _ (c .before .before .before .before .args .console) (c .before .put .ensures)
 
 pub begin-spec : {M : Type 1} → statement M
 begin-spec = tie.close (tie.spec (λ c. search needs) (λ c κs. search needs) returns)

@@ -2,7 +2,6 @@
 -- Assumes nothing.
 use mathlib.Core.Path.{sym, ap, _∙_}
 use Prim.Native.Nat.{ℕ}
-use lib.ListN.{length}
 use Rattle.answers.specs.Rows.{answer}
 use Rattle.cba_mode.specs.Sets.{tagBytes}
 use Rattle.ledger_rules.specs.Ledger.{stale, spent, ownRows}
@@ -21,14 +20,14 @@ returns c =
 charge-requires : tie.Need-charge-requires
 charge-requires c κs =
     let a = c .before .before .before .args in
-    let r = ready-if (tagBytes (a .p .tau)) (length (a .nonce .now)) (a .ad) (a .message) (a .room) (sym (c .before .first-checks .ensures) ∙ c .if1 .left) in
+    let r = ready-if (tagBytes (a .p .tau)) (a .l .console) (a .nonce .now) (a .ad) (a .message) (a .room) (sym (c .before .first-checks .ensures) ∙ c .if1 .left) in
     (r .data-limit, r .seals .limit)
 
 own-check-requires : tie.Need-own-check-requires
 own-check-requires c κs =
     let s = c .before .before .before .before in
     let a = s .args in
-    (s .pre, ready-if (tagBytes (a .p .tau)) (length (a .nonce .now)) (a .ad) (a .message) (a .room) (sym (c .before .before .first-checks .ensures) ∙ c .before .if1 .left) .nonce-length)
+    (s .pre, ready-if (tagBytes (a .p .tau)) (a .l .console) (a .nonce .now) (a .ad) (a .message) (a .room) (sym (c .before .before .first-checks .ensures) ∙ c .before .if1 .left) .nonce-length)
 
 returns-2 : tie.Need-returns-2
 returns-2 c =
