@@ -36,7 +36,7 @@ module _ (set : ℕ) (key : List ℕ) where
   -- a ledger that is not refused is fresh, and one that is refused is none
   pub made-fresh : (console : ℕ) → makeAnswer set key ≡ 0 → madeLedger set key console ≡ fresh set key console
   unfolding madeLedger
-  made-fresh console e = ap (λ (a : ℕ). cond (eqb a 0) (fresh set key console) noLedger) e
+  made-fresh console e = rw e refl
 
   pub made-none : (console : ℕ) → (makeAnswer set key ≡ 0 → ⊥) → madeLedger set key console ≡ noLedger
   unfolding madeLedger
