@@ -23,7 +23,7 @@ pub enum Act {
 
 pub const ACTS: [(&str, Act); 2] = [("seal", Act::Seal), ("open", Act::Open)];
 
-/// Bytes of associated data in every call.
+/// Bytes of associated data in every call that is timed, and in the counts of benches/instructions.
 pub const DATA: usize = 16;
 pub const NONCE: usize = 12;
 
@@ -52,6 +52,7 @@ pub struct Case {
     pub act: Act,
     pub set: Set,
     pub size: usize,
+    pub data: usize,
 }
 
 impl Case {
@@ -67,7 +68,12 @@ pub fn cases(plan: &Plan) -> Vec<Case> {
     let mut all = Vec::new();
     for set in SETS {
         for &size in plan.sizes {
-            all.extend(ACTS.map(|(_, act)| Case { act, set, size }));
+            all.extend(ACTS.map(|(_, act)| Case {
+                act,
+                set,
+                size,
+                data: DATA,
+            }));
         }
     }
     all

@@ -1,7 +1,7 @@
 //! What must hold before anything is measured.
 
 use crate::candidates::{Call, Candidate, Inputs, NETTLE, OCB, TABLES, US};
-use crate::cases::SETS;
+use crate::cases::{DATA, SETS};
 use crate::random::Random;
 use crate::{job, nettle, ocb};
 
@@ -42,7 +42,7 @@ fn standard() {
 fn same_cipher() {
     let mut random = Random(1);
     for set in SETS {
-        let inputs = job::inputs(set, &mut random);
+        let inputs = job::inputs(set, DATA, &mut random);
         let text: Vec<u8> = (0..4096).map(|_| random.number() as u8).collect();
         for cipher in [NETTLE, TABLES] {
             let sealed = ocb::ecb(&inputs.key, false, &text);
@@ -64,7 +64,7 @@ fn same_cipher() {
 /// What is opened is looked at: a changed byte is refused.
 fn refuses(candidate: &Candidate) {
     for set in SETS {
-        let inputs = job::inputs(set, &mut Random(2));
+        let inputs = job::inputs(set, DATA, &mut Random(2));
         let mut sealed = vec![0; 100 + (candidate.tag)(set)];
         assert!((candidate.seal)(&inputs, &[7; 100], &mut sealed));
         sealed[50] ^= 1;

@@ -1,7 +1,7 @@
 //! A call with all it needs, ready to be made again and again.
 
 use crate::candidates::{Call, Candidate, Inputs};
-use crate::cases::{Act, Case, Set, DATA, NONCE};
+use crate::cases::{Act, Case, Set, NONCE};
 use crate::random::Random;
 use std::time::Instant;
 
@@ -18,12 +18,12 @@ fn bytes(random: &mut Random, n: usize) -> Vec<u8> {
 }
 
 /// The same for all candidates.
-pub fn inputs(set: Set, random: &mut Random) -> Inputs {
+pub fn inputs(set: Set, data: usize, random: &mut Random) -> Inputs {
     Inputs {
         set,
         key: bytes(random, set.key),
         nonce: bytes(random, NONCE),
-        data: bytes(random, DATA),
+        data: bytes(random, data),
     }
 }
 
@@ -31,7 +31,7 @@ impl Job {
     /// The candidate seals a message and opens what it sealed, which must be the message again.
     pub fn new(candidate: &Candidate, case: &Case) -> Job {
         let mut random = Random(case.size as u64);
-        let inputs = inputs(case.set, &mut random);
+        let inputs = inputs(case.set, case.data, &mut random);
         let message = bytes(&mut random, case.size);
         let mut sealed = vec![0; case.size + (candidate.tag)(case.set)];
         let mut opened = vec![0; case.size];

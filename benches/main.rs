@@ -1,8 +1,9 @@
 //! Measures sealing and opening; ./bench builds and starts it.
 //!
-//!     bench time PLAN                            the table of times
-//!     bench hardware PLAN                        the second process of `time`
-//!     bench calls CANDIDATE ACT SET SIZE COUNT   so many calls, for valgrind to count
+//!     bench time PLAN                                    the table of times
+//!     bench hardware PLAN                                the second process of `time`
+//!     bench calls CANDIDATE ACT SET SIZE DATA COUNT      so many calls, for valgrind to count
+//!     bench script KIND SET DATA accepted|refused COUNT  the same as records for crates/ledger_script
 
 #[path = "../tests/shared/random.rs"]
 mod random;
@@ -15,14 +16,16 @@ mod job;
 mod nettle;
 mod ocb;
 mod report;
+mod script;
 mod tables;
 mod timing;
 mod us;
 mod worker;
 
 use candidates::CANDIDATES;
-use cases::{Case, Plan, ACTS, PLANS, SETS};
+use cases::{Case, Plan, Set, ACTS, PLANS, SETS};
 use job::Job;
+use std::io::Write;
 
 fn plan(name: &str) -> Option<&'static Plan> {
     PLANS.iter().find(|plan| plan.name == name)
@@ -44,13 +47,18 @@ fn hardware(name: &str) -> Option<()> {
     Some(())
 }
 
-fn calls([candidate, act, set, size, count]: [&str; 5]) -> Option<()> {
+fn set(number: &str) -> Option<Set> {
+    let number: u32 = number.parse().ok()?;
+    SETS.iter().find(|s| s.number == number).copied()
+}
+
+fn calls([candidate, act, number, size, data, count]: [&str; 6]) -> Option<()> {
     let candidate = CANDIDATES.iter().find(|c| c.name == candidate)?;
-    let number: u32 = set.parse().ok()?;
     let case = Case {
         act: ACTS.iter().find(|(name, _)| *name == act)?.1,
-        set: *SETS.iter().find(|s| s.number == number)?,
+        set: set(number)?,
         size: size.parse().ok()?,
+        data: data.parse().ok()?,
     };
     ocb::start(false);
     checks::is_plain();
@@ -60,13 +68,25 @@ fn calls([candidate, act, set, size, count]: [&str; 5]) -> Option<()> {
     Some(())
 }
 
+fn script([kind, number, data, answer, count]: [&str; 5]) -> Option<()> {
+    let accepted = match answer {
+        "accepted" => true,
+        "refused" => false,
+        _ => return None,
+    };
+    let (data, count) = (data.parse().ok()?, count.parse().ok()?);
+    let records = script::script(kind, set(number)?, data, accepted, count)?;
+    std::io::stdout().write_all(&records).ok()
+}
+
 fn main() {
     let args: Vec<String> = std::env::args().skip(1).collect();
     let words: Vec<&str> = args.iter().map(|a| a.as_str()).collect();
     let done = match words[..] {
         ["time", plan] => time(plan),
         ["hardware", plan] => hardware(plan),
-        ["calls", a, b, c, d, e] => calls([a, b, c, d, e]),
+        ["calls", a, b, c, d, e, f] => calls([a, b, c, d, e, f]),
+        ["script", a, b, c, d, e] => script([a, b, c, d, e]),
         _ => None,
     };
     if done.is_none() {

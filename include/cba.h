@@ -64,8 +64,8 @@ enum cba_answer {
     CBA_FALSE = 8   /* opening: no message seals to this ciphertext under these other inputs */
 };
 
-/* Numbers that no call here answers: 9, stale, 10, spent, and 12, console, are a ledger's; 11,
-   line, is the hub program's. */
+/* Numbers that no call here answers: 9, stale, 10, spent, 12, console, and 13, name, are a
+   ledger's; 11, line, is the hub program's. */
 
 /* The bytes of stack that are enough for a call with so many bytes of data, and for any call: 96
    KiB. The data are walked by a recursion, a call for each 16 bytes. The figures are measured and

@@ -2,7 +2,7 @@
 //! consoles, and each begins with its console's number.
 
 use super::lists::List;
-use super::model::Record;
+use super::records::Record;
 use crate::shared::mode::bytes::to_hex;
 use std::collections::BTreeMap;
 
@@ -11,17 +11,18 @@ const MANY: usize = 5_000;
 #[derive(Default)]
 pub struct Nonces {
     accepted: usize,
+    by_name: usize,   // of these, sealings by name
     on_two: usize,    // consoles, under one key
     elsewhere: usize, // begin with another number than their console's
     again: usize,     // calls with a nonce that was accepted on another console
     refused: usize,   // of these, with answer 12
 }
 
-/// What a line says of a sealing: its answer, the console and the last nonce.
+/// What a line says of a sealing, by name or not: its answer, the console and the last nonce.
 fn sealing(line: &str) -> Option<(&str, u16, &str)> {
     let words: Vec<&str> = line.split(' ').collect();
     match words[..] {
-        ["seal" | "lent", answer, _, _, console, _, _, last, ..] => {
+        ["seal" | "lent" | "name", answer, _, _, console, _, _, last, ..] => {
             Some((answer, console.parse().ok()?, last))
         }
         _ => None,
@@ -38,8 +39,9 @@ impl Nonces {
         for list in one_key {
             let mut consoles = BTreeMap::new(); // of the nonces accepted in this list
             for (record, line) in list.records.iter().zip(&mut lines) {
-                if let Record::Seal(call) = record {
-                    nonces.call(&to_hex(&call.nonce), line, &mut consoles);
+                let Record::Call(call) = record else { continue };
+                if let Some(nonce) = call.nonce() {
+                    nonces.call(&to_hex(nonce), line, &mut consoles);
                 }
             }
         }
@@ -56,6 +58,7 @@ impl Nonces {
         }
         if answer == "0" {
             self.accepted += 1;
+            self.by_name += line.starts_with("name") as usize;
             self.elsewhere += !last.starts_with(&format!("{console:04x}")) as usize;
             let before = consoles.insert(last, console);
             self.on_two += before.is_some_and(|of| of != console) as usize;
@@ -64,9 +67,9 @@ impl Nonces {
 
     pub fn show(&self, lists: usize) {
         println!(
-            "ledger_model: {lists} lists on ledgers of one key; {} accepted nonces compared, {} on two consoles, {} \
-             with another start; {} tried on another console, {} answered 12",
-            self.accepted, self.on_two, self.elsewhere, self.again, self.refused
+            "ledger_model: {lists} lists on ledgers of one key; {} accepted nonces compared, {} of them by name, {} \
+             on two consoles, {} with another start; {} tried on another console, {} answered 12",
+            self.accepted, self.by_name, self.on_two, self.elsewhere, self.again, self.refused
         );
     }
 
@@ -76,7 +79,11 @@ impl Nonces {
 
     /// A run with few of them shows little.
     pub fn many(&self) {
-        assert!(self.accepted >= MANY, "few accepted nonces");
+        let ordinary = self.accepted - self.by_name;
+        assert!(
+            self.by_name.min(ordinary) >= MANY / 2,
+            "few accepted nonces"
+        );
         assert!(self.again >= MANY, "few nonces on another console");
         assert_eq!(self.refused, self.again, "another answer than 12");
     }

@@ -1,7 +1,9 @@
 //! Random lists of calls.
 
-use super::model::{Ledger, Record, NO_LEDGER};
+use super::model::{Call, Ledger, NO_LEDGER};
+use super::records::{by_hand, Record};
 use super::seen::Seen;
+use super::steps::Script;
 use crate::shared::expected::set;
 use crate::shared::random::Random;
 
@@ -10,7 +12,17 @@ pub struct List {
     pub records: Vec<Record>,
     pub lines: Vec<String>,
     ledger: Ledger,
-    refused: Option<u128>, // the nonce of the call before, where that was refused
+}
+
+/// The script, as one list.
+impl From<Script> for List {
+    fn from(script: Script) -> List {
+        List {
+            records: script.records,
+            lines: script.lines,
+            ledger: script.ledger,
+        }
+    }
 }
 
 impl List {
@@ -19,27 +31,30 @@ impl List {
             records: vec![],
             lines: vec![],
             ledger: NO_LEDGER,
-            refused: None,
         }
     }
 
     fn add(&mut self, record: Record, seen: &mut Seen) {
-        match &record {
-            Record::Seal(call) => seen.call(&self.ledger, call, &mut self.refused),
-            _ => self.refused = None,
-        }
+        seen.record(&self.ledger, &record);
         let line = record.line(&mut self.ledger);
         let answer = line.split(' ').nth(1).expect("an answer");
         seen.answer(&record, answer.parse().unwrap_or(0));
         self.records.push(record);
         self.lines.push(line);
     }
+
+    /// Puts a ledger there, with what is kept in it.
+    fn put(&mut self, ledger: &Ledger, seen: &mut Seen) {
+        for record in by_hand(ledger) {
+            self.add(record, seen);
+        }
+    }
 }
 
-/// A made or a hand-made ledger and 1 to 12 sealings, seldom with another making between.
+/// A made or a hand-made ledger and 1 to 16 calls, seldom with another making between, or something held by hand.
 pub fn list(random: &mut Random, seen: &mut Seen) -> List {
     let mut list = List::new();
-    let calls = 1 + random.below(12);
+    let calls = 1 + random.below(16);
     for i in 0..=calls {
         // One with no set soon gives way: its calls all answer 1.
         let again = if set(list.ledger.set).is_some() {
@@ -47,15 +62,19 @@ pub fn list(random: &mut Random, seen: &mut Seen) -> List {
         } else {
             3
         };
-        let record = match i {
-            1.. if !random.one_in(again) => Record::Seal(random.call(&list.ledger)),
-            _ if random.one_in(2) => random.making(),
-            _ => {
-                let console = random.console();
-                Record::Put(random.hand_made(console))
-            }
-        };
-        list.add(record, seen);
+        if i > 0 && random.one_in(32) {
+            let (name, heading) = random.held();
+            list.add(Record::Hold(name, heading), seen);
+        } else if i > 0 && !random.one_in(again) {
+            let call = random.call(&list.ledger);
+            list.add(Record::Call(call), seen);
+        } else if random.one_in(2) {
+            list.add(random.making(), seen);
+        } else {
+            let console = random.console();
+            let ledger = random.hand_made(console);
+            list.put(&ledger, seen);
+        }
     }
     list
 }
@@ -95,26 +114,39 @@ fn ledgers(random: &mut Random, list: &mut List, seen: &mut Seen) -> Vec<Ledger>
     all
 }
 
-/// Two to four ledgers of one key with different console numbers, and 8 to 31 sealings, each on one of them, which is
-/// put back before it. One nonce in three is one that another of them has accepted.
+/// Two to four ledgers of one key with different console numbers, and 6 to 19 turns, each on one of them, which is
+/// put back before it with what is kept in it, and has 1 to 3 calls. One nonce in three is one that another of them
+/// has accepted.
 pub fn one_key(random: &mut Random, seen: &mut Seen) -> List {
     let mut list = List::new();
-    let mut kept = ledgers(random, &mut list, seen);
+    let mut all = ledgers(random, &mut list, seen);
     let mut accepted: Vec<(usize, Vec<u8>)> = vec![];
-    for _ in 0..8 + random.below(24) {
-        let i = random.below(kept.len());
-        list.add(Record::Put(kept[i].clone()), seen);
-        let mut call = random.call(&kept[i]);
-        let others: Vec<_> = accepted.iter().filter(|(of, _)| *of != i).collect();
-        if !others.is_empty() && random.one_in(3) {
-            call = random.call_with(&kept[i], &[]);
-            call.nonce = others[random.below(others.len())].1.clone();
+    for _ in 0..6 + random.below(14) {
+        let i = random.below(all.len());
+        list.put(&all[i], seen);
+        for _ in 0..1 + random.below(3) {
+            let call = next_call(random, &list.ledger, i, &accepted);
+            if list.ledger.refusals(&call).is_empty() {
+                accepted.extend(call.nonce().map(|nonce| (i, nonce.clone())));
+            }
+            list.add(Record::Call(call), seen);
         }
-        if kept[i].refusals(&call).is_empty() {
-            accepted.push((i, call.nonce.clone()));
-        }
-        list.add(Record::Seal(call), seen);
-        kept[i] = list.ledger.clone();
+        all[i] = list.ledger.clone();
     }
     list
+}
+
+/// On ledger i, where these nonces were accepted on which ledgers.
+fn next_call(
+    random: &mut Random,
+    ledger: &Ledger,
+    i: usize,
+    accepted: &[(usize, Vec<u8>)],
+) -> Call {
+    let others: Vec<_> = accepted.iter().filter(|(of, _)| *of != i).collect();
+    if others.is_empty() || !random.one_in(3) {
+        return random.call(ledger);
+    }
+    let nonce = &others[random.below(others.len())].1;
+    random.sealing_with(ledger, nonce)
 }

@@ -1,9 +1,13 @@
-//! The script of the gate. The answers and the totals in it are those of document 01 and F-2, by hand; the model must
-//! agree.
+//! The script of the gate. The answers and the totals in it are those of document 01, F-2 and F-3, by hand; the model
+//! must agree.
 
-use super::model::{nonce_on, MOST_LOW};
+use super::numbers::{nonce_on, MOST_LOW};
 use super::script_consoles::consoles;
-use super::steps::Script;
+use super::script_headings::headings;
+use super::script_keepings::keepings;
+use super::script_names::names;
+use super::script_sums::sums;
+use super::steps::{Script, KEYS_AND_TAGS};
 
 pub fn script() -> Script {
     let mut s = Script::new();
@@ -16,6 +20,10 @@ pub fn script() -> Script {
     unused_key_bytes(&mut s);
     consoles(&mut s);
     lent(&mut s);
+    headings(&mut s);
+    keepings(&mut s);
+    names(&mut s);
+    sums(&mut s);
     s
 }
 
@@ -39,19 +47,7 @@ fn makings(s: &mut Script) {
 /// A fresh ledger takes the least nonce that begins with its number. The charge of 1 data byte and 17 message bytes
 /// is 3.
 fn every_set(s: &mut Script) {
-    let keys_and_tags = [
-        (16, 4),
-        (16, 4),
-        (16, 8),
-        (16, 8),
-        (16, 8),
-        (16, 12),
-        (16, 12),
-        (16, 12),
-        (24, 8),
-        (32, 12),
-    ];
-    for (set, (key, t)) in (1..).zip(keys_and_tags) {
+    for (set, (key, t)) in (1..).zip(KEYS_AND_TAGS) {
         s.make(0, set, key);
         s.seal((7, 0), 0, [1, 17, 17 + t - 1]);
         s.seal((0, 3), 0, [1, 17, 17 + t]);
@@ -196,15 +192,7 @@ fn unused_key_bytes(s: &mut Script) {
         s.seal((0, 3), 3, [1, 17, 40]);
         s.put(set, 0, None);
         s.seal((0, 3), 3, [1, 17, 40]);
-        let outs: Vec<&str> = s
-            .lines
-            .iter()
-            .rev()
-            .step_by(2)
-            .take(2)
-            .map(|line| last_word(line))
-            .collect();
-        assert_eq!(outs[0], outs[1], "another sealing");
+        assert_eq!(s.output(0), s.output(2), "another sealing");
     }
 }
 
@@ -220,8 +208,4 @@ fn lent(s: &mut Script) {
     refusals(s);
     s.console = 513;
     nonces(s);
-}
-
-fn last_word(line: &str) -> &str {
-    line.rsplit(' ').next().expect("a word")
 }

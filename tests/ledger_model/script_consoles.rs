@@ -1,6 +1,7 @@
 //! The part of the script that is about console numbers, by hand from F-2.
 
-use super::model::{nonce_on, Ledger, MOST_LOW};
+use super::model::Ledger;
+use super::numbers::{nonce_on, MOST_LOW};
 use super::steps::Script;
 
 const CONSOLES: [u16; 6] = [0, 1, 255, 256, 258, 65535];

@@ -4,7 +4,7 @@ use mathlib.Core.Path.{_≡_, refl, sym, ap, ap₂, subst, _∙_}
 use mathlib.Core.Bool.{Bool, true, false, cond, not, _&&_, _||_}
 use mathlib.Core.List.{List, [], _∷_, _++_}
 use Prim.Native.Nat.{ℕ}
-use borrow.Author.Tests.{eq-eqb, ne-eqb}
+use borrow.Author.Tests.{eq-eqb, ne-eqb, eqb-true, eqb-false}
 use lib.Dec.{T, eqb}
 use Rattle.answers.specs.Rows.{Row, answer, firstOf, Passes, numbers, isIn, ownNumbers, Decides}
 
@@ -21,7 +21,7 @@ pub not-true : (x : Bool) → not x ≡ true → x ≡ false
 not-true true h = sym h
 not-true false h = refl
 
-both : (x y : Bool) → x && y ≡ true → (x ≡ true) × (y ≡ true)
+pub both : (x y : Bool) → x && y ≡ true → (x ≡ true) × (y ≡ true)
 both true y h = (refl, h)
 both false y h = absurd (true-false h refl)
 
@@ -136,12 +136,28 @@ two-parts (x ∷ xs) ys own = go (two-parts xs ys (own-rest x xs own)) (x .when)
 pub joined : {r a b : ℕ} (xs ys : List Row) → ownNumbers (numbers xs) ≡ true → r ≡ firstOf a b → a ≡ answer xs → b ≡ answer ys → r ≡ answer (xs ++ ys)
 joined xs ys own d e f = d ∙ ap₂ firstOf e f ∙ sym (two-parts xs ys own)
 
+-- both accept where neither refuses
+pub neither : (a b : ℕ) → firstOf a b ≡ 0 → (a ≡ 0) × (b ≡ 0)
+unfolding firstOf
+neither a b e = go (eqb a 0) refl
+  where
+    go : (x : Bool) → eqb a 0 ≡ x → (a ≡ 0) × (b ≡ 0)
+    go true h = (eqb-true a 0 h, rw h at e)
+    go false h = absurd (eqb-false a 0 h (rw h at e))
+
+-- the first of two answers, where it refuses and where it does not
+pub first-stops : {r a : ℕ} (b : ℕ) → r ≡ a → (r ≡ 0 → ⊥) → r ≡ firstOf a b
+unfolding firstOf
+first-stops {r} {a} b e n = e ∙ sym (rw (ne-eqb a 0 (λ z. n (e ∙ z))) refl)
+
+pub first-goes : {b : ℕ} (a : ℕ) → a ≡ 0 → b ≡ firstOf a b
+unfolding firstOf
+first-goes a z = rw z refl
+
 -- a call that stops at a refusal of the first part, and one that goes on
 module _ {r : ℕ} (xs ys : List Row) (own : ownNumbers (numbers xs) ≡ true) (e : r ≡ answer xs) where
   pub stops : (r ≡ 0 → ⊥) → r ≡ answer (xs ++ ys)
-  unfolding firstOf
-  stops n = e ∙ sym (two-parts xs ys own ∙ rw (ne-eqb (answer xs) 0 (λ z. n (e ∙ z))) refl)
+  stops n = first-stops (answer ys) e n ∙ sym (two-parts xs ys own)
 
   pub goes-on : {a : ℕ} → r ≡ 0 → a ≡ answer ys → a ≡ answer (xs ++ ys)
-  unfolding firstOf
-  goes-on z f = f ∙ sym (two-parts xs ys own ∙ rw (sym e ∙ z) refl)
+  goes-on z f = f ∙ first-goes (answer xs) (sym e ∙ z) ∙ sym (two-parts xs ys own)

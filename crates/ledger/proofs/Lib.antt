@@ -1,3 +1,4 @@
 pub mod CheckLaws
 pub mod ValueLaws
 pub mod CallLaws
+pub mod HeadingLaws

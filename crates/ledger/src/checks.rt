@@ -1,7 +1,7 @@
 // What a ledger checks: the nonce's start, nonces as numbers, and the charge against the capacity.
 ghost use mathlib.Core.Path.{_≡_};
 ghost use mathlib.Core.Bool.{not};
-ghost use Prim.Native.Nat.{_+_, _^_, _≤_};
+ghost use Prim.Native.Nat.{_+_, _/_, _^_, _≤_};
 ghost use lib.Dec.{ltb};
 ghost use lib.ListN.{length};
 ghost use Rattle.octets.specs.Numbers.{number};
@@ -36,12 +36,18 @@ pub fn above(nonce: &[u8], last: &[u8]) -> bool
     above
 }
 
-// The blocks of a sealing.
+// The blocks of so many bytes, without the sum n + 15, which might not fit.
+fn blocks(n: usize) -> u64
+    ensures { λ r. ⌜ r ≡ (n + 15) / 16 ⌝ }
+{
+    (n / 16 + (n % 16 + 15) / 16) as u64
+}
+
+// The blocks of data and message.
 pub fn charge(ad: usize, message: usize) -> u64
-    requires { ⌜ (ad ≤ 4096) × (message ≤ 65536) ⌝ }
     ensures { λ r. ⌜ r ≡ charge ad message ⌝ }
 {
-    ((ad + 15) / 16 + (message + 15) / 16) as u64
+    blocks(ad) + blocks(message)
 }
 
 // Whether a charge goes into what is left of the capacity. The sum is not formed: it might not fit.

@@ -12,17 +12,25 @@ use plain::lookup;
 use plain::message_check;
 use plain::nonce_check;
 ghost use mathlib.Core.Path.{_≡_};
+ghost use mathlib.Core.List.{[], _∷_};
 ghost use Prim.Native.Nat.{_+_, _^_, _≤_, _<_};
 ghost use lib.ListN.{length};
 ghost use Rattle.answers.specs.Rows.{answer};
-ghost use Rattle.cba_mode.specs.Sets.{tagBytes};
 ghost use Rattle.plain.specs.declared.sets.Set.the-variants.{Known};
 ghost use Rattle.plain.specs.Lookup.{lookupOf};
-ghost use Rattle.ledger_rules.specs.Ledger.{noLedger, fresh, makeAnswer, madeLedger, nonceRows, stale, spent, ownRows, ledgerChecks, charged, ledgerAnswer};
-ghost use Rattle.ledger.specs.Values.{valueOf, Ran};
+ghost use Rattle.ledger_rules.specs.Ledger.{noLedger, fresh, makeAnswer, madeLedger, nonceRows, stale, spent, noBlocks, ownRows, charged, ledgerAnswer};
+ghost use Rattle.ledger_rules.specs.Ledger.Source.{given};
+ghost use Rattle.ledger.specs.Values.{valueOf, firstChecks, allChecks, Ran};
+
+// What is kept under a name, a heading: whether there is something, and the sum of the data.
+pub struct Heading {
+    pub kept: bool,
+    pub sum: [u8; 16],
+}
 
 // The set, the key with zeros after it up to 32 bytes, the number of the console that seals, the
-// total of blocks charged, and the last accepted nonce, where one has begun it.
+// total of blocks charged, the last accepted nonce, where one has begun it, and what is kept under
+// the names 0 to 7.
 //
 // Several consoles may seal under one key, each with a ledger. That their numbers differ and that
 // their totals stay at 2^b together is the hub's to see to: a ledger sees itself alone.
@@ -33,6 +41,7 @@ pub struct Ledger {
     pub total: u64,
     pub begun: bool,
     pub last: [u8; 12],
+    pub headings: [Heading; 8],
 }
 
 // A making's answer, and the ledger.
@@ -41,11 +50,17 @@ pub struct Made {
     pub ledger: Ledger,
 }
 
-// A sealing's answer, and the next ledger.
-pub struct Sealed {
+// A call's answer, and the next ledger.
+pub struct Outcome {
     pub answer: u32,
     pub ledger: Ledger,
 }
+
+// What there is under a name at first.
+pub const NOTHING: Heading = Heading {
+    kept: false,
+    sum: [0; 16],
+};
 
 // The ledger of a refused making.
 fn none() -> Ledger
@@ -58,6 +73,7 @@ fn none() -> Ledger
         total: 0,
         begun: false,
         last: [0; 12],
+        headings: [NOTHING; 8],
     }
 }
 
@@ -75,6 +91,7 @@ fn begin(set: u32, key: &[u8], console: u16) -> Ledger
         total: 0,
         begun: false,
         last: [0; 12],
+        headings: [NOTHING; 8],
     }
 }
 
@@ -114,6 +131,17 @@ fn is_stale(l: Ledger, nonce: &[u8]) -> bool
     !above(nonce, &last)
 }
 
+// 10, for a set that is known.
+pub fn capacity_check(l: Ledger, p: Parameters, charge: u64) -> u32
+    requires { ⌜ lookupOf (l .set) ≡ Known p ⌝ }
+    ensures { λ r. ⌜ r ≡ answer (noBlocks (spent (valueOf l) charge) ∷ []) ⌝ }
+{
+    if !fits(l.total, charge, p.capacity) {
+        return 10;
+    }
+    0
+}
+
 // The ledger's own checks, for a set that is known.
 fn own_check(l: Ledger, p: Parameters, nonce: &[u8], charge: u64) -> u32
     requires { ⌜ lookupOf (l .set) ≡ Known p ⌝ }
@@ -123,10 +151,7 @@ fn own_check(l: Ledger, p: Parameters, nonce: &[u8], charge: u64) -> u32
     if is_stale(l, nonce) {
         return 9;
     }
-    if !fits(l.total, charge, p.capacity) {
-        return 10;
-    }
-    0
+    capacity_check(l, p, charge)
 }
 
 // 3 and 12.
@@ -143,27 +168,37 @@ fn nonce_checks(console: u16, nonce: &[u8]) -> u32
     0
 }
 
-// The checks after the set's and before the ledger's own.
+// The checks of a sealing after the set's and before the ledger's own, where source is what its data
+// are answered.
 fn first_checks(
     console: u16,
     p: Parameters,
     nonce: &[u8],
+    source: u32,
+    message: usize,
+    room: usize,
+) -> u32
+    ensures { λ r. ⌜ r ≡ firstChecks console p (now (nonce .entry)) source message room ⌝ }
+{
+    let a = first_of(nonce_checks(console, nonce), source);
+    first_of(a, message_check(p, message, room))
+}
+
+// The checks of a sealing after the set's, in their order. ad is the length that its data are charged
+// for.
+pub fn checked(
+    l: Ledger,
+    p: Parameters,
+    nonce: &[u8],
+    source: u32,
     ad: usize,
     message: usize,
     room: usize,
 ) -> u32
-    ensures { λ r. ⌜ r ≡ answer (ledgerChecks (tagBytes (p .tau)) console (now (nonce .entry)) ad message room) ⌝ }
-{
-    let a = first_of(nonce_checks(console, nonce), ad_check(ad));
-    first_of(a, message_check(p, message, room))
-}
-
-// The checks after the set's, in their order.
-fn checked(l: Ledger, p: Parameters, nonce: &[u8], ad: usize, message: usize, room: usize) -> u32
     requires { ⌜ lookupOf (l .set) ≡ Known p ⌝ }
-    ensures { λ r. ⌜ r ≡ ledgerAnswer (valueOf l) (now (nonce .entry)) ad message room ⌝ }
+    ensures { λ r. ⌜ r ≡ allChecks l p (now (nonce .entry)) source ad message room ⌝ }
 {
-    let refusal = first_checks(l.console, p, nonce, ad, message, room);
+    let refusal = first_checks(l.console, p, nonce, source, message, room);
     if refusal != 0 {
         return refusal;
     }
@@ -171,7 +206,7 @@ fn checked(l: Ledger, p: Parameters, nonce: &[u8], ad: usize, message: usize, ro
 }
 
 // The ledger after an accepted sealing: the charge added, the nonce kept.
-fn next(l: Ledger, nonce: &[u8], charge: u64) -> Ledger
+pub fn next(l: Ledger, nonce: &[u8], charge: u64) -> Ledger
     requires { ⌜ (length (now nonce) ≡ 12) × (l .total + charge < 2 ^ 64) ⌝ }
     ensures { λ r. ⌜ valueOf r ≡ charged (valueOf l) (now (nonce .entry)) charge ⌝ }
 {
@@ -192,9 +227,9 @@ fn accepted(
     ad: &[u8],
     message: &[u8],
     out: &mut [u8],
-) -> Sealed
+) -> Outcome
     requires { ⌜ lookupOf (l .set) ≡ Known p ⌝ }
-    requires { ⌜ ledgerAnswer (valueOf l) (now nonce) (length (now ad)) (length (now message)) (length (now out)) ≡ 0 ⌝ }
+    requires { ⌜ ledgerAnswer (valueOf l) (now nonce) (given (now ad)) (length (now message)) (length (now out)) ≡ 0 ⌝ }
     ensures { λ r. ⌜
         Ran l (now (nonce .entry)) (now (ad .entry)) (now (message .entry)) (now (out .entry)) (r .answer) (r .ledger) (now (out .exit))
         ⌝ }
@@ -203,7 +238,7 @@ fn accepted(
     let n = p.key_bytes();
     let answer = plain::seal_plain(l.set, &key[..n], nonce, ad, message, out);
     let after = next(l, nonce, charge(ad.len(), message.len()));
-    Sealed {
+    Outcome {
         answer: answer,
         ledger: after,
     }
@@ -213,20 +248,21 @@ impl Ledger {
     // Seals message over the first bytes of out under the ledger's key, answers 0 and gives back the
     // next ledger; or answers the first that applies of 1, 3, 12, 4, 5, 7, 9 and 10, and ledger and
     // out are as they were.
-    pub fn sealed(self, nonce: &[u8], ad: &[u8], message: &[u8], out: &mut [u8]) -> Sealed
+    pub fn sealed(self, nonce: &[u8], ad: &[u8], message: &[u8], out: &mut [u8]) -> Outcome
         ensures { λ r. ⌜
             Ran self (now (nonce .entry)) (now (ad .entry)) (now (message .entry)) (now (out .entry)) (r .answer) (r .ledger) (now (out .exit))
             ⌝ }
     {
         let Set::Known(p) = lookup(self.set) else {
-            return Sealed {
+            return Outcome {
                 answer: 1,
                 ledger: self,
             };
         };
-        let answer = checked(self, p, nonce, ad.len(), message.len(), out.len());
+        let n = ad.len();
+        let answer = checked(self, p, nonce, ad_check(n), n, message.len(), out.len());
         if answer != 0 {
-            return Sealed {
+            return Outcome {
                 answer: answer,
                 ledger: self,
             };

@@ -1,10 +1,13 @@
-// The key ledger: a console's number, what it has used of a key's capacity, and its last nonce,
-// above plain sealing.
+// The key ledger: a console's number, what it has used of a key's capacity, its last nonce, and the
+// data that it keeps under names, above plain sealing.
 mod checks;
+mod headings;
 mod ledger;
 
+pub use ledger::Heading;
 pub use ledger::Ledger;
 pub use ledger::Made;
-pub use ledger::Sealed;
+pub use ledger::NOTHING;
+pub use ledger::Outcome;
 pub use ledger::make;
 pub use ledger::seal_in_place;

@@ -13,7 +13,8 @@ use Rattle.octets.proofs.Numbers.{length-digits, number-digits, number-append}
 use Rattle.cba_mode.specs.Sets.{isSet, capacity, column}
 use Rattle.cba_mode.specs.Charge.{charge}
 use Rattle.cba_rules.specs.Checks.{setTag}
-use Rattle.ledger_rules.specs.Ledger.{Ledger, fresh, consoleOf, stale, spent, ledgerAnswer, nextLedger}
+use Rattle.ledger_rules.specs.Ledger.{Ledger, fresh, consoleOf, stale, spent, sourceRow, sealCharge, ledgerAnswer, nextLedger}
+use Rattle.ledger_rules.specs.Ledger.Source.{given}
 use Rattle.ledger_rules.specs.Runs.{Call, after, run, nonceOf, repeated, filled, Filling}
 use Rattle.ledger_rules.specs.Runs.Call.{seals}
 use Rattle.ledger_rules.proofs.LedgerLaws.{Ready, make-good, made-fresh, ledger-accepts, ledger-spent, next-accepted}
@@ -53,33 +54,34 @@ module _ {console n : ℕ} {l : Ledger} (small : console < 65536) (f : Filled co
   its-set : (isSet (l .set) ≡ true) × (setTag (l .set) ≡ 4) × (2 ^ capacity (l .set) ≡ 65536)
   its-set = rw (f .set-is) set-one
 
-  ready : (message room : ℕ) → message ≤ 65536 → message + 4 ≤ room → Ready (setTag (l .set)) (l .console) (nonceOf console (suc n)) 0 message room
+  ready : (message room : ℕ) → message ≤ 65536 → message + 4 ≤ room → Ready (setTag (l .set)) (l .console) (nonceOf console (suc n)) (sourceRow l (given [])) message room
+  unfolding sourceRow
   ready message room h k =
       record {
         nonce-length = nonce-length console (suc n);
         begins = nonce-console console (suc n) small ∙ sym (f .console-is);
-        data-limit = omega arith;
+        source-passes = refl;
         seals = record { limit = h; room = omega (arith, its-set .1) };
       }
 
   pub takes-more : (message room : ℕ) → message ≤ 65536 → message + 4 ≤ room → 4096 * n + charge 0 message ≤ 65536 →
-      ledgerAnswer l (nonceOf console (suc n)) 0 message room ≡ 0
-  unfolding spent
+      ledgerAnswer l (nonceOf console (suc n)) (given []) message room ≡ 0
+  unfolding spent sealCharge
   takes-more message room h k c =
-      ledger-accepts l (nonceOf console (suc n)) 0 message room (its-set .0) (ready message room h k) (f .next-nonce) (le-ltb (2 ^ capacity (l .set)) (l .total + charge 0 message) (omega (arith, its-set .2, f .total-is)))
+      ledger-accepts l (nonceOf console (suc n)) (given []) message room (its-set .0) (ready message room h k) (f .next-nonce) (le-ltb (2 ^ capacity (l .set)) (l .total + charge 0 message) (omega (arith, its-set .2, f .total-is)))
 
   pub takes-no-more : (message room : ℕ) → message ≤ 65536 → message + 4 ≤ room → 65536 < 4096 * n + charge 0 message →
-      ledgerAnswer l (nonceOf console (suc n)) 0 message room ≡ 10
-  unfolding spent
+      ledgerAnswer l (nonceOf console (suc n)) (given []) message room ≡ 10
+  unfolding spent sealCharge
   takes-no-more message room h k c =
-      ledger-spent l (nonceOf console (suc n)) 0 message room (its-set .0) (ready message room h k) (f .next-nonce) (lt-ltb (2 ^ capacity (l .set)) (l .total + charge 0 message) (omega (arith, its-set .2, f .total-is)))
+      ledger-spent l (nonceOf console (suc n)) (given []) message room (its-set .0) (ready message room h k) (f .next-nonce) (lt-ltb (2 ^ capacity (l .set)) (l .total + charge 0 message) (omega (arith, its-set .2, f .total-is)))
 
   -- after a further one of 65,536 bytes
-  one-more : (message room : ℕ) → message ≡ 65536 → 65540 ≤ room → n < 16 → Filled console (suc n) (nextLedger l (nonceOf console (suc n)) 0 message room)
-  unfolding charge stale
+  one-more : (message room : ℕ) → message ≡ 65536 → 65540 ≤ room → n < 16 → Filled console (suc n) (nextLedger l (nonceOf console (suc n)) (given []) message room)
+  unfolding charge sealCharge stale
   one-more message room m o h =
       let N = nonceOf console (suc n) in
-      let w = next-accepted l N 0 message room (takes-more message room (omega (arith, m)) (omega (arith, m)) (omega (arith, m))) in
+      let w = next-accepted l N (given []) message room (takes-more message room (omega (arith, m)) (omega (arith, m)) (omega (arith, m))) in
       let x : number N < number (nonceOf console (suc (suc n))) = omega (arith, nonce-number console (suc n) small (omega arith), nonce-number console (suc (suc n)) small (omega arith)) in
       subst (λ (l′ : Ledger). Filled console (suc n) l′) (sym w)
       (record {

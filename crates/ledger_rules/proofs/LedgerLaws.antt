@@ -1,24 +1,28 @@
--- What a making and a sealing on a ledger answer, and what they leave.
+-- What a making, a sealing of either kind and a keeping on a ledger answer, and what they leave.
 -- Assumes nothing.
-use mathlib.Core.Path.{_≡_, refl, sym, ap, subst, _∙_}
+use mathlib.Core.Path.{_≡_, refl, sym, ap, ap₂, subst, _∙_}
 use mathlib.Core.Bool.{Bool, true, false, cond, not, false≢true}
-use mathlib.Core.List.{List, _∷_, _++_}
+use mathlib.Core.List.{List, [], _∷_, _++_}
 use Prim.Native.Nat.{ℕ, _+_, _^_, _<_, _≤_}
 use native.Mathlib.Omega.{arith}
 use borrow.Author.Tests.{ne-eqb, ltb-false, le-ltb}
 use lib.Dec.{eqb}
-use lib.ListN.{length}
+use lib.ListN.{length, take}
 use lib.Pow.{pow-lt, pow-mono}
 use lib.Seq.{length-take-le}
-use Rattle.answers.specs.Rows.{Row, answer, Passes, numbers, isIn, ownNumbers, Decides}
-use Rattle.answers.proofs.RowLaws.{not-false, accepts, passes-parts, passed, decides, goes-on}
-use Rattle.cba_mode.specs.Sets.{isSet, keyBytes, capacity}
+use Rattle.answers.specs.Rows.{Row, answer, firstOf, Passes, numbers, isIn, ownNumbers, Decides}
+use Rattle.answers.proofs.RowLaws.{not-false, accepts, passes-parts, passed, decides, two-parts, goes-on}
+use Rattle.fips197.specs.Cipher.{cipher}
+use Rattle.cba_mode.specs.Sets.{isSet, keyBytes, tagBits, capacity}
+use Rattle.cba_mode.specs.Data.{tagOfData}
+use Rattle.cba_mode.specs.Seal.{sealWith}
 use Rattle.cba_mode.specs.Charge.{charge}
-use Rattle.cba_rules.specs.Checks.{setTag, badSet}
+use Rattle.cba_rules.specs.Checks.{setTag, badSet, messageRows}
 use Rattle.cba_rules.specs.Refusals.{sealing, sealAnswer, sealLeaves, sealOutput, SealCall}
 use Rattle.cba_rules.proofs.SetLaws.{set-fits, capacity-least}
 use Rattle.cba_rules.proofs.RefusalLaws.{Seals, is-length, has-length, message-passes, message-passed, seal-untouched, seal-accepts}
-use Rattle.ledger_rules.specs.Ledger.{Ledger, noLedger, fresh, makeRows, makeAnswer, madeLedger, keyOf, consoleOf, stale, spent, ownRows, ledgerChecks, ledgerRows, ledgerAnswer, charged, nextLedger, ledgerOutput, LedgerCall}
+use Rattle.ledger_rules.specs.Ledger.{Ledger, noLedger, fresh, makeRows, makeAnswer, madeLedger, keyOf, consoleOf, nonceRows, stale, spent, ownRows, headingAt, isName, isKept, Source, sourceRow, sealCharge, ledgerChecks, ledgerRows, ledgerAnswer, charged, nextLedger, ledgerSealing, ledgerOutput, LedgerCall, keepCharge, keepRows, keepAnswer, sumOf, keeping, keptLedger}
+use Rattle.ledger_rules.specs.Ledger.Source.{given, named}
 
 -- ---- making
 
@@ -42,144 +46,238 @@ module _ (set : ℕ) (key : List ℕ) where
   unfolding madeLedger
   made-none console n = rw (ne-eqb (makeAnswer set key) 0 n) refl
 
+-- ---- the capacity
+
+module _ (l : Ledger) (c : ℕ) (fits : spent l c ≡ false) where
+  -- a total that an acceptance leaves is within the capacity, and a word
+  pub total-within : l .total + c ≤ 2 ^ capacity (l .set)
+  unfolding spent
+  total-within = ltb-false (2 ^ capacity (l .set)) (l .total + c) fits
+
+  pub total-word : isSet (l .set) ≡ true → l .total + c < 18446744073709551616
+  total-word s = let p = pow-lt {i = capacity (l .set)} {j = 64} (omega (arith, set-fits (l .set) s .1)) in omega (arith, total-within, p)
+
 -- ---- sealing
 
-module _ (t console : ℕ) (N : List ℕ) (ad message out : ℕ) where
+module _ (t console : ℕ) (N : List ℕ) (source : Row) (message out : ℕ) where
   -- what the checks before the ledger's own say
   pub record Ready : Type 0 where
     pub nonce-length : length N ≡ 12
     pub begins : consoleOf N ≡ console
-    pub data-limit : ad ≤ 4096
+    pub source-passes : source .when ≡ false
     pub seals : Seals t message out
 
-  ready-passes : Ready → Passes (ledgerChecks t console N ad message out)
+  ready-passes : Ready → Passes (ledgerChecks t console N source message out)
   ready-passes r = (
     has-length (length N) 12 (r .nonce-length),
-    (has-length (consoleOf N) console (r .begins), (le-ltb 4096 ad (r .data-limit), message-passes t message out (r .seals))),
+    (has-length (consoleOf N) console (r .begins), (r .source-passes, message-passes t message out (r .seals))),
   )
 
-  ready-passed : Passes (ledgerChecks t console N ad message out) → Ready
+  ready-passed : Passes (ledgerChecks t console N source message out) → Ready
   ready-passed p =
       record {
         nonce-length = is-length (length N) 12 (p .0);
         begins = is-length (consoleOf N) console (p .1 .0);
-        data-limit = ltb-false 4096 ad (p .1 .1 .0);
+        source-passes = p .1 .1 .0;
         seals = message-passed t message out (p .1 .1 .1);
       }
 
-  pub ready-if : answer (ledgerChecks t console N ad message out) ≡ 0 → Ready
-  unfolding numbers isIn ownNumbers
-  ready-if e = ready-passed (passed (ledgerChecks t console N ad message out) refl e)
+-- the rows of either kind have numbers of their own
+own-rows : (l : Ledger) (N : List ℕ) (S : Source) (message out : ℕ) → ownNumbers (numbers (ledgerRows l N S message out)) ≡ true
+unfolding ledgerRows sourceRow numbers isIn ownNumbers
+own-rows l N (given A) message out = refl
+own-rows l N (named name) message out = refl
 
-module _ (l : Ledger) (N : List ℕ) (ad message out : ℕ) where
+module _ (l : Ledger) (t console : ℕ) (N : List ℕ) (message out : ℕ) where
+  pub own-checks : (S : Source) → ownNumbers (numbers (ledgerChecks t console N (sourceRow l S) message out)) ≡ true
+  unfolding sourceRow numbers isIn ownNumbers
+  own-checks (given A) = refl
+  own-checks (named name) = refl
+
+  own-start : (S : Source) → ownNumbers (numbers (nonceRows console N ++ (sourceRow l S ∷ []))) ≡ true
+  unfolding sourceRow numbers isIn ownNumbers
+  own-start (given A) = refl
+  own-start (named name) = refl
+
+  -- the checks before the ledger's own, in their groups
+  pub in-groups : (S : Source) → answer (ledgerChecks t console N (sourceRow l S) message out)
+      ≡ firstOf (firstOf (answer (nonceRows console N)) (answer (sourceRow l S ∷ []))) (answer (messageRows t message out))
+  unfolding numbers isIn ownNumbers
+  in-groups S =
+      two-parts (nonceRows console N ++ (sourceRow l S ∷ [])) (messageRows t message out) (own-start S)
+      ∙ ap (λ (x : ℕ). firstOf x (answer (messageRows t message out))) (two-parts (nonceRows console N) (sourceRow l S ∷ []) refl)
+
+module _ (l : Ledger) (N : List ℕ) (S : Source) (message out : ℕ) where
   abbrev checks : List Row
-  checks = ledgerChecks (setTag (l .set)) (l .console) N ad message out
+  checks = ledgerChecks (setTag (l .set)) (l .console) N (sourceRow l S) message out
 
   abbrev own : List Row
-  own = ownRows (stale l N) (spent l (charge ad message))
+  own = ownRows (stale l N) (spent l (sealCharge S message))
+
+  abbrev AllReady : Type 0
+  AllReady = Ready (setTag (l .set)) (l .console) N (sourceRow l S) message out
 
   -- on a set, the checks before the ledger's own, then those
-  pub ledger-known : isSet (l .set) ≡ true → ledgerAnswer l N ad message out ≡ answer (checks ++ own)
+  pub ledger-known : isSet (l .set) ≡ true → ledgerAnswer l N S message out ≡ answer (checks ++ own)
   unfolding ledgerAnswer ledgerRows answer
   ledger-known s = rw s refl
 
-  ledger-own : {a : ℕ} → isSet (l .set) ≡ true → Ready (setTag (l .set)) (l .console) N ad message out → a ≡ answer own → ledgerAnswer l N ad message out ≡ a
-  unfolding numbers isIn ownNumbers
-  ledger-own s r e = ledger-known s ∙ sym (goes-on checks own refl (sym (accepts checks (ready-passes (setTag (l .set)) (l .console) N ad message out r))) refl e)
+  ledger-own : isSet (l .set) ≡ true → AllReady → ledgerAnswer l N S message out ≡ answer own
+  ledger-own s r =
+      let z = accepts checks (ready-passes (setTag (l .set)) (l .console) N (sourceRow l S) message out r) in
+      ledger-known s ∙ sym (goes-on checks own (own-checks l (setTag (l .set)) (l .console) N message out S) (sym z) refl refl)
 
-  pub ledger-decides : Decides (ledgerRows l N ad message out) (ledgerAnswer l N ad message out)
-  unfolding ledgerAnswer ledgerRows numbers isIn ownNumbers
-  ledger-decides = decides (badSet (l .set) ∷ (checks ++ own)) refl
+  pub ledger-decides : Decides (ledgerRows l N S message out) (ledgerAnswer l N S message out)
+  unfolding ledgerAnswer
+  ledger-decides = decides (ledgerRows l N S message out) (own-rows l N S message out)
 
-  pub ledger-accepts : isSet (l .set) ≡ true → Ready (setTag (l .set)) (l .console) N ad message out → stale l N ≡ false → spent l (charge ad message) ≡ false →
-      ledgerAnswer l N ad message out ≡ 0
-  ledger-accepts s r x y = ledger-own s r (sym (accepts own (x, (y, tt))))
+  pub ledger-accepts : isSet (l .set) ≡ true → AllReady → stale l N ≡ false → spent l (sealCharge S message) ≡ false → ledgerAnswer l N S message out ≡ 0
+  ledger-accepts s r x y = ledger-own s r ∙ accepts own (x, (y, tt))
 
-  pub ledger-spent : isSet (l .set) ≡ true → Ready (setTag (l .set)) (l .console) N ad message out → stale l N ≡ false → spent l (charge ad message) ≡ true →
-      ledgerAnswer l N ad message out ≡ 10
+  pub ledger-spent : isSet (l .set) ≡ true → AllReady → stale l N ≡ false → spent l (sealCharge S message) ≡ true → ledgerAnswer l N S message out ≡ 10
   unfolding answer
-  ledger-spent s r x y = ledger-own s r (rw (x, y) refl)
+  ledger-spent s r x y = ledger-own s r ∙ rw (x, y) refl
 
   -- what an acceptance says
   pub record Accepted : Type 0 where
     pub is-set : isSet (l .set) ≡ true
-    pub ready : Ready (setTag (l .set)) (l .console) N ad message out
+    pub ready : AllReady
     pub not-stale : stale l N ≡ false
-    pub not-spent : spent l (charge ad message) ≡ false
+    pub not-spent : spent l (sealCharge S message) ≡ false
 
-  pub ledger-accepted : ledgerAnswer l N ad message out ≡ 0 → Accepted
-  unfolding ledgerAnswer ledgerRows numbers isIn ownNumbers
+  pub ledger-accepted : ledgerAnswer l N S message out ≡ 0 → Accepted
+  unfolding ledgerRows
   ledger-accepted e =
-      let p = passed (badSet (l .set) ∷ (checks ++ own)) refl e in
+      let p = ledger-decides .accepted e in
       let q = passes-parts checks own (p .1) in
       record {
         is-set = not-false (isSet (l .set)) (p .0);
-        ready = ready-passed (setTag (l .set)) (l .console) N ad message out (q .0);
+        ready = ready-passed (setTag (l .set)) (l .console) N (sourceRow l S) message out (q .0);
         not-stale = q .1 .0;
         not-spent = q .1 .1 .0;
       }
 
-  -- a total that an acceptance leaves is within the capacity, and a word
-  pub ledger-total : ledgerAnswer l N ad message out ≡ 0 → l .total + charge ad message ≤ 2 ^ capacity (l .set)
-  unfolding spent
-  ledger-total e = ltb-false (2 ^ capacity (l .set)) (l .total + charge ad message) (ledger-accepted e .not-spent)
-
-  pub ledger-word : ledgerAnswer l N ad message out ≡ 0 → l .total + charge ad message < 18446744073709551616
-  ledger-word e =
-      let p = pow-lt {i = capacity (l .set)} {j = 64} (omega (arith, set-fits (l .set) (ledger-accepted e .is-set) .1)) in
-      omega (arith, ledger-total e, p)
-
-  next-refused : (ledgerAnswer l N ad message out ≡ 0 → ⊥) → nextLedger l N ad message out ≡ l
+  next-refused : (ledgerAnswer l N S message out ≡ 0 → ⊥) → nextLedger l N S message out ≡ l
   unfolding nextLedger
-  next-refused n = rw (ne-eqb (ledgerAnswer l N ad message out) 0 n) refl
+  next-refused n = rw (ne-eqb (ledgerAnswer l N S message out) 0 n) refl
 
-  pub next-accepted : ledgerAnswer l N ad message out ≡ 0 → nextLedger l N ad message out ≡ charged l N (charge ad message)
+  pub next-accepted : ledgerAnswer l N S message out ≡ 0 → nextLedger l N S message out ≡ charged l N (sealCharge S message)
   unfolding nextLedger
   next-accepted e = rw e refl
 
-module _ (l : Ledger) (N A M out : List ℕ) where
+-- what an acceptance says of the data
+pub given-limit : (l : Ledger) (N A : List ℕ) (message out : ℕ) → ledgerAnswer l N (given A) message out ≡ 0 → length A ≤ 4096
+unfolding sourceRow
+given-limit l N A message out e = ltb-false 4096 (length A) (ledger-accepted l N (given A) message out e .ready .source-passes)
+
+pub named-kept : (l : Ledger) (N : List ℕ) (name message out : ℕ) → ledgerAnswer l N (named name) message out ≡ 0 → isKept l name ≡ true
+unfolding sourceRow
+named-kept l N name message out e = not-false (isKept l name) (ledger-accepted l N (named name) message out e .ready .source-passes)
+
+pub given-name : (l : Ledger) (N A : List ℕ) (message out : ℕ) → ledgerAnswer l N (given A) message out ≡ 13 → ⊥
+unfolding ledgerRows sourceRow numbers isIn
+given-name l N A message out e = not-in e (ledger-decides l N (given A) message out .listed)
+  where
+    not-in : {a : ℕ} → a ≡ 13 → isIn a (0 ∷ numbers (ledgerRows l N (given A) message out)) ≡ true → ⊥
+    not-in z i = false≢true (sym (ap (λ (n : ℕ). isIn n (0 ∷ numbers (ledgerRows l N (given A) message out))) z) ∙ i)
+
+module _ (l : Ledger) (N : List ℕ) (S : Source) (M out : List ℕ) where
+  abbrev its-answer : ℕ
+  its-answer = ledgerAnswer l N S (length M) (length out)
+
   -- a refusal leaves ledger and output
-  pub ledger-refused : (a : ℕ) → a ≡ ledgerAnswer l N (length A) (length M) (length out) → (a ≡ 0 → ⊥) → LedgerCall l N A M out a l out
+  pub ledger-refused : (a : ℕ) → a ≡ its-answer → (a ≡ 0 → ⊥) → LedgerCall l N S M out a l out
   unfolding ledgerOutput
   ledger-refused a e n =
-      let k : ledgerAnswer l N (length A) (length M) (length out) ≡ 0 → ⊥ = λ z. n (e ∙ z) in
+      let k : its-answer ≡ 0 → ⊥ = λ z. n (e ∙ z) in
       record {
         answer-is = e;
-        next-is = sym (next-refused l N (length A) (length M) (length out) k);
-        output-is = sym (seal-untouched (ledgerAnswer l N (length A) (length M) (length out)) (sealing (l .set) (keyOf l) N A M) out k);
+        next-is = sym (next-refused l N S (length M) (length out) k);
+        output-is = sym (seal-untouched its-answer (ledgerSealing l N S M) out k);
       }
 
-  -- an acceptance is one of plain sealing
-  pub ledger-plain : keyBytes (l .set) ≤ length (l .key) → ledgerAnswer l N (length A) (length M) (length out) ≡ 0 →
-      SealCall (l .set) (keyOf l) N A M out 0 (ledgerOutput l N A M out)
+  -- an acceptance is one of plain sealing with data A, where it writes what that does
+  pub ledger-plain : (A : List ℕ) → length A ≤ 4096 → ledgerSealing l N S M ≡ sealing (l .set) (keyOf l) N A M → keyBytes (l .set) ≤ length (l .key) →
+      its-answer ≡ 0 → SealCall (l .set) (keyOf l) N A M out 0 (ledgerOutput l N S M out)
   unfolding ledgerOutput keyOf sealOutput
-  ledger-plain lk e =
-      let a = ledger-accepted l N (length A) (length M) (length out) e in
+  ledger-plain A la w lk e =
+      let a = ledger-accepted l N S (length M) (length out) e in
       let z : sealAnswer (l .set) (keyOf l) N A M out ≡ 0 =
       seal-accepts (l .set) (keyOf l) N A M out
       (record {
         is-set = a .is-set;
         key-length = length-take-le (keyBytes (l .set)) (l .key) lk;
         nonce-length = a .ready .nonce-length;
-        data-limit = a .ready .data-limit;
+        data-limit = la;
       })
       (a .ready .seals) in
-      (sym z, ap (λ (x : ℕ). sealLeaves x (sealing (l .set) (keyOf l) N A M) out) (e ∙ sym z))
+      (sym z, ap₂ (λ (x : ℕ) (C : List ℕ). sealLeaves x C out) (e ∙ sym z) w)
 
-  -- so what plain sealing left is the ledger's output
-  pub ledger-sealed : (a : ℕ) (l′ : Ledger) (out′ : List ℕ) → keyBytes (l .set) ≤ length (l .key) → ledgerAnswer l N (length A) (length M) (length out) ≡ 0 →
-      SealCall (l .set) (keyOf l) N A M out a out′ → l′ ≡ charged l N (charge (length A) (length M)) → LedgerCall l N A M out a l′ out′
-  ledger-sealed a l′ out′ lk e call el =
-      let p = ledger-plain lk e in
+  -- an accepted call, by what it leaves
+  pub ledger-done : (a : ℕ) (l′ : Ledger) (out′ : List ℕ) → its-answer ≡ 0 → a ≡ 0 → l′ ≡ charged l N (sealCharge S (length M)) →
+      out′ ≡ ledgerOutput l N S M out → LedgerCall l N S M out a l′ out′
+  ledger-done a l′ out′ e z el eo =
+      record { answer-is = z ∙ sym e; next-is = el ∙ sym (next-accepted l N S (length M) (length out) e); output-is = eo }
+
+-- with data that are given it is plain sealing; by name it is, where the sum is that of A
+pub given-plain : (l : Ledger) (N A M out : List ℕ) → keyBytes (l .set) ≤ length (l .key) → ledgerAnswer l N (given A) (length M) (length out) ≡ 0 →
+    SealCall (l .set) (keyOf l) N A M out 0 (ledgerOutput l N (given A) M out)
+unfolding ledgerSealing
+given-plain l N A M out lk e = ledger-plain l N (given A) M out A (given-limit l N A (length M) (length out) e) refl lk e
+
+pub named-plain : (l : Ledger) (N : List ℕ) (name : ℕ) (A M out : List ℕ) → length A ≤ 4096 → headingAt l name .sum ≡ sumOf l A → keyBytes (l .set) ≤ length (l .key) →
+    ledgerAnswer l N (named name) (length M) (length out) ≡ 0 → SealCall (l .set) (keyOf l) N A M out 0 (ledgerOutput l N (named name) M out)
+unfolding ledgerSealing sealing sumOf tagOfData
+named-plain l N name A M out la h lk e =
+    ledger-plain l N (named name) M out A la
+    (ap (λ (s : List ℕ). sealWith (cipher (keyOf l)) (tagBits (l .set)) (capacity (l .set)) N (take (setTag (l .set)) s) M) h) lk e
+
+-- ---- keeping
+
+module _ (l : Ledger) (name ad : ℕ) where
+  pub keep-decides : Decides (keepRows l name ad) (keepAnswer l name ad)
+  unfolding keepAnswer keepRows numbers isIn ownNumbers
+  keep-decides = decides (keepRows l name ad) refl
+
+  -- what an acceptance says
+  pub record KeepAccepted : Type 0 where
+    pub is-set : isSet (l .set) ≡ true
+    pub is-name : isName name ≡ true
+    pub data-limit : ad ≤ 4096
+    pub not-spent : spent l (keepCharge ad) ≡ false
+
+  pub keep-accepted : keepAnswer l name ad ≡ 0 → KeepAccepted
+  unfolding keepRows
+  keep-accepted e =
+      let p = keep-decides .accepted e in
       record {
-        answer-is = call .0 ∙ sym (p .0) ∙ sym e;
-        next-is = el ∙ sym (next-accepted l N (length A) (length M) (length out) e);
-        output-is = call .1 ∙ sym (p .1);
+        is-set = not-false (isSet (l .set)) (p .0);
+        is-name = not-false (isName name) (p .1 .0);
+        data-limit = ltb-false 4096 ad (p .1 .1 .0);
+        not-spent = p .1 .1 .1 .0;
       }
+
+module _ (l : Ledger) (name : ℕ) (A : List ℕ) where
+  pub kept-refused : (keepAnswer l name (length A) ≡ 0 → ⊥) → keptLedger l name A ≡ l
+  unfolding keptLedger
+  kept-refused n = rw (ne-eqb (keepAnswer l name (length A)) 0 n) refl
+
+  pub kept-accepted : keepAnswer l name (length A) ≡ 0 → keptLedger l name A ≡ keeping l name (sumOf l A) (keepCharge (length A))
+  unfolding keptLedger
+  kept-accepted e = rw e refl
+
+  -- either way it leaves the last nonce
+  pub kept-nonce : (keptLedger l name A .begun ≡ l .begun) × (keptLedger l name A .last ≡ l .last)
+  unfolding keptLedger
+  kept-nonce = go (eqb (keepAnswer l name (length A)) 0)
+    where
+      go : (x : Bool) → let l′ = cond x (keeping l name (sumOf l A) (keepCharge (length A))) l in (l′ .begun ≡ l .begun) × (l′ .last ≡ l .last)
+      go true = (refl, refl)
+      go false = (refl, refl)
 
 -- ---- a fresh ledger
 
-module _ (set : ℕ) (key : List ℕ) (console : ℕ) (N : List ℕ) (ad message out : ℕ) where
+module _ (set : ℕ) (key : List ℕ) (console : ℕ) (N : List ℕ) where
   made-new : stale (madeLedger set key console) N ≡ false
   unfolding stale madeLedger
   made-new = go (eqb (makeAnswer set key) 0)
@@ -188,18 +286,20 @@ module _ (set : ℕ) (key : List ℕ) (console : ℕ) (N : List ℕ) (ad message
       go true = refl
       go false = refl
 
-  pub never-stale : ledgerAnswer (madeLedger set key console) N ad message out ≡ 9 → ⊥
+  pub never-stale : (S : Source) (message out : ℕ) → ledgerAnswer (madeLedger set key console) N S message out ≡ 9 → ⊥
   unfolding ledgerRows
-  never-stale e =
+  never-stale S message out e =
       let l = madeLedger set key console in
-      let checks = badSet (l .set) ∷ ledgerChecks (setTag (l .set)) (l .console) N ad message out in
-      false≢true (sym made-new ∙ ledger-decides l N ad message out .refused checks _ _ refl e .1)
+      let checks = badSet (l .set) ∷ ledgerChecks (setTag (l .set)) (l .console) N (sourceRow l S) message out in
+      false≢true (sym made-new ∙ ledger-decides l N S message out .refused checks _ _ refl e .1)
 
-  pub takes-first : makeAnswer set key ≡ 0 → length N ≡ 12 → consoleOf N ≡ console → ad ≤ 4096 → message ≤ 65536 → message + setTag set ≤ out →
-      ledgerAnswer (madeLedger set key console) N ad message out ≡ 0
-  unfolding stale spent charge
-  takes-first e n c a m o =
+  pub takes-first : (A : List ℕ) (message out : ℕ) → makeAnswer set key ≡ 0 → length N ≡ 12 → consoleOf N ≡ console → length A ≤ 4096 → message ≤ 65536 →
+      message + setTag set ≤ out → ledgerAnswer (madeLedger set key console) N (given A) message out ≡ 0
+  unfolding stale spent sourceRow sealCharge charge
+  takes-first A message out e n c a m o =
       let s = make-accepted set key e .0 in
       let k = pow-mono {i = 16} {j = capacity set} (capacity-least set s) in
-      subst (λ (l : Ledger). ledgerAnswer l N ad message out ≡ 0) (sym (made-fresh set key console e))
-      (ledger-accepts (fresh set key console) N ad message out s (record { nonce-length = n; begins = c; data-limit = a; seals = record { limit = m; room = o } }) refl (le-ltb (2 ^ capacity set) (0 + charge ad message) (omega (arith, k))))
+      subst (λ (l : Ledger). ledgerAnswer l N (given A) message out ≡ 0) (sym (made-fresh set key console e))
+      (ledger-accepts (fresh set key console) N (given A) message out s
+      (record { nonce-length = n; begins = c; source-passes = le-ltb 4096 (length A) a; seals = record { limit = m; room = o } }) refl
+      (le-ltb (2 ^ capacity set) (0 + charge (length A) message) (omega (arith, k))))

@@ -1,113 +1,185 @@
--- Lists of calls: the total is the sum of the accepted charges and within the capacity, and the nonces rise and begin with the console.
+-- Lists of calls: the total is the sum of the accepted charges and within the capacity, the nonces rise and begin with the console, and
+-- what is under a name is the sum of the data last kept there.
 -- Assumes nothing.
-use mathlib.Core.Path.{_≡_, refl, sym, ap, ap₂, subst, _∙_}
+use mathlib.Core.Path.{_≡_, refl, sym, ap, subst, _∙_}
 use mathlib.Core.Bool.{Bool, true, false, cond, _&&_}
 use mathlib.Core.List.{List, [], _∷_}
 use mathlib.Core.Logic.{⊎-elim}
+use mathlib.Core.Option.{Option, none, some}
 use Prim.Native.Nat.{ℕ, _+_, _^_, _<_, _≤_}
 use native.Mathlib.Nat.{add-assoc}
 use native.Mathlib.Omega.{arith}
-use borrow.Author.Tests.{ne-eqb, eqb-true, eqb-false, leb-false}
+use borrow.Author.Tests.{eqb-true, eqb-false, leb-false, ltb-true}
 use lib.Dec.{eqb, leb}
-use lib.ListN.{length}
+use lib.ListN.{length, length-set}
+use lib.Seq.{getD-set-same, getD-set-other}
 use Rattle.octets.specs.Numbers.{number}
 use Rattle.cba_mode.specs.Sets.{capacity}
-use Rattle.ledger_rules.specs.Ledger.{Ledger, consoleOf, stale, charged}
-use Rattle.ledger_rules.specs.Runs.{Call, Sealing, answerOn, after, outOf, outputOn, chargeOf, run, accepted, charges, nonces, RisingFrom, Rising, Among}
-use Rattle.ledger_rules.specs.Runs.Call.{seals}
-use Rattle.ledger_rules.proofs.LedgerLaws.{ledger-accepted, ledger-total, ledger-refused, next-accepted}
+use Rattle.ledger_rules.specs.Ledger.{Heading, Ledger, keyOf, consoleOf, stale, headingAt, isName, charged, sumOf, keeping}
+use Rattle.ledger_rules.specs.Runs.{Call, Sealing, Keeping, answerOn, after, outOf, outputOn, chargeOf, run, accepted, charges, nonces, lastKept, RisingFrom, Rising, Among}
+use Rattle.ledger_rules.specs.Runs.Call.{seals, keeps}
+use Rattle.ledger_rules.proofs.LedgerLaws.{total-within, ledger-accepted, ledger-refused, next-accepted, keep-accepted, kept-refused, kept-accepted, kept-nonce}
 
 -- ---- one call
 
-after-sealed : (l : Ledger) (s : Sealing) → answerOn l (seals s) ≡ 0 → after l (seals s) ≡ charged l (s .nonce) (chargeOf (seals s))
-unfolding answerOn after chargeOf
-after-sealed l s e = next-accepted l (s .nonce) (length (s .ad)) (length (s .message)) (length (s .out)) e
-
--- what an accepted call does to the ledger
-record Adds (l : Ledger) (c : Call) : Type 0 where
-  set-kept : after l c .set ≡ l .set
-  console-kept : after l c .console ≡ l .console
-  total-is : after l c .total ≡ l .total + chargeOf c
-  within : after l c .total ≤ 2 ^ capacity (l .set)
-
-adds : (l : Ledger) (c : Call) → answerOn l c ≡ 0 → Adds l c
-unfolding answerOn chargeOf
-adds l (seals s) e =
-    let n = after-sealed l s e in
-    record {
-      set-kept = ap (λ (m : Ledger). m .set) n;
-      console-kept = ap (λ (m : Ledger). m .console) n;
-      total-is = ap (λ (m : Ledger). m .total) n;
-      within = subst (λ (m : Ledger). m .total ≤ 2 ^ capacity (l .set)) (sym n) (ledger-total l (s .nonce) (length (s .ad)) (length (s .message)) (length (s .out)) e);
-    }
-
 pub after-refused : (l : Ledger) (c : Call) → (answerOn l c ≡ 0 → ⊥) → (after l c ≡ l) × (outputOn l c ≡ outOf c)
 unfolding answerOn after outputOn outOf
-after-refused l (seals s) n = let r = ledger-refused l (s .nonce) (s .ad) (s .message) (s .out) _ refl n in (sym (r .next-is), sym (r .output-is))
+after-refused l (seals s) n = let r = ledger-refused l (s .nonce) (s .source) (s .message) (s .out) _ refl n in (sym (r .next-is), sym (r .output-is))
+after-refused l (keeps k) n = (kept-refused l (k .name) (k .ad) n, refl)
+
+after-sealed : (l : Ledger) (s : Sealing) → answerOn l (seals s) ≡ 0 → after l (seals s) ≡ charged l (s .nonce) (chargeOf (seals s))
+unfolding answerOn after chargeOf
+after-sealed l s e = next-accepted l (s .nonce) (s .source) (length (s .message)) (length (s .out)) e
+
+after-kept : (l : Ledger) (k : Keeping) → answerOn l (keeps k) ≡ 0 → after l (keeps k) ≡ keeping l (k .name) (sumOf l (k .ad)) (chargeOf (keeps k))
+unfolding answerOn after chargeOf
+after-kept l k e = kept-accepted l (k .name) (k .ad) e
+
+-- what an accepted call does to the ledger, which is m after it
+record Adds (l m : Ledger) (c : Call) : Type 0 where
+  set-kept : m .set ≡ l .set
+  key-kept : m .key ≡ l .key
+  console-kept : m .console ≡ l .console
+  total-is : m .total ≡ l .total + chargeOf c
+  within : l .total + chargeOf c ≤ 2 ^ capacity (l .set)
+
+adds : (l : Ledger) (c : Call) → answerOn l c ≡ 0 → Adds l (after l c) c
+unfolding answerOn chargeOf
+adds l (seals s) e =
+    let w = total-within l _ (ledger-accepted l (s .nonce) (s .source) (length (s .message)) (length (s .out)) e .not-spent) in
+    subst (λ (m : Ledger). Adds l m (seals s)) (sym (after-sealed l s e))
+    (record { set-kept = refl; key-kept = refl; console-kept = refl; total-is = refl; within = w })
+adds l (keeps k) e =
+    let w = total-within l _ (keep-accepted l (k .name) (length (k .ad)) e .not-spent) in
+    subst (λ (m : Ledger). Adds l m (keeps k)) (sym (after-kept l k e))
+    (record { set-kept = refl; key-kept = refl; console-kept = refl; total-is = refl; within = w })
 
 -- an accepted nonce is above the last
 above-last : (l : Ledger) (s : Sealing) → answerOn l (seals s) ≡ 0 → l .begun ≡ true → number (l .last) < number (s .nonce)
 unfolding answerOn stale
 above-last l s e b =
-    let x = ledger-accepted l (s .nonce) (length (s .ad)) (length (s .message)) (length (s .out)) e .not-stale in
+    let x = ledger-accepted l (s .nonce) (s .source) (length (s .message)) (length (s .out)) e .not-stale in
     leb-false (number (s .nonce)) (number (l .last)) (ap (λ (x : Bool). x && leb (number (s .nonce)) (number (l .last))) (sym b) ∙ x)
 
 -- and it begins with the ledger's number
 begins-with : (l : Ledger) (s : Sealing) → answerOn l (seals s) ≡ 0 → consoleOf (s .nonce) ≡ l .console
 unfolding answerOn
-begins-with l s e = ledger-accepted l (s .nonce) (length (s .ad)) (length (s .message)) (length (s .out)) e .ready .begins
+begins-with l s e = ledger-accepted l (s .nonce) (s .source) (length (s .message)) (length (s .out)) e .ready .begins
 
--- ---- a list of them
+-- ---- a list of them: what holds of a ledger, the one after the list and the accepted calls, where it holds of none and of one more
 
--- what a list keeps, from any ledger
-pub record Holds (l : Ledger) (cs : List Call) : Type 0 where
-  pub sum : run l cs .total ≡ l .total + charges (accepted l cs)
-  pub within : l .total ≤ 2 ^ capacity (l .set) → run l cs .total ≤ 2 ^ capacity (l .set)
-  pub rise : l .begun ≡ true → RisingFrom (number (l .last)) (nonces (accepted l cs))
-  pub rise-new : Rising (nonces (accepted l cs))
-  pub begin : (N : List ℕ) → Among N (nonces (accepted l cs)) → consoleOf N ≡ l .console
+module _ (P : Ledger → Ledger → List Call → Type 0) (start : (l : Ledger) → P l l [])
+    (more : (l m : Ledger) (c : Call) (cs : List Call) → answerOn l c ≡ 0 → P (after l c) m cs → P l m (c ∷ cs)) where
+  on-answer : (l : Ledger) (c : Call) (cs : List Call) → ((m : Ledger) → P m (run m cs) (accepted m cs)) → P l (run l (c ∷ cs)) (accepted l (c ∷ cs))
+  unfolding run accepted
+  on-answer l c cs h = go (eqb (answerOn l c) 0) refl
+    where
+      go : (x : Bool) → eqb (answerOn l c) 0 ≡ x → P l (run (after l c) cs) (cond (eqb (answerOn l c) 0) (c ∷ accepted (after l c) cs) (accepted (after l c) cs))
+      go true e = rw e (more l (run (after l c) cs) c (accepted (after l c) cs) (eqb-true (answerOn l c) 0 e) (h (after l c)))
+      go false e = rw (e, after-refused l c (eqb-false (answerOn l c) 0 e) .0) (h l)
 
-on-accepted : (l : Ledger) (c : Call) (cs : List Call) → answerOn l c ≡ 0 → Holds (after l c) cs → Holds l (c ∷ cs)
-unfolding run accepted charges nonces
-on-accepted l (seals s) cs e h =
-    let c = seals s in
+  by-calls : (cs : List Call) (l : Ledger) → P l (run l cs) (accepted l cs)
+  unfolding run accepted
+  by-calls [] l = start l
+  by-calls (c ∷ cs) l = on-answer l c cs (λ m. by-calls cs m)
+
+-- ---- the total
+
+pub record Sums (l m : Ledger) (cs : List Call) : Type 0 where
+  pub set-stays : m .set ≡ l .set
+  pub key-stays : m .key ≡ l .key
+  pub sum : m .total ≡ l .total + charges cs
+  pub within : l .total ≤ 2 ^ capacity (l .set) → m .total ≤ 2 ^ capacity (l .set)
+
+one-sum : (l m : Ledger) (c : Call) (cs : List Call) → answerOn l c ≡ 0 → Sums (after l c) m cs → Sums l m (c ∷ cs)
+unfolding charges
+one-sum l m c cs e h =
     let d = adds l c e in
+    let now : after l c .total ≤ 2 ^ capacity (after l c .set) = rw (d .set-kept, d .total-is) (d .within) in
+    record {
+      set-stays = h .set-stays ∙ d .set-kept;
+      key-stays = h .key-stays ∙ d .key-kept;
+      sum = h .sum ∙ ap (λ (t : ℕ). t + charges cs) (d .total-is) ∙ add-assoc (l .total) (chargeOf c) (charges cs);
+      within = λ k. subst (λ (x : ℕ). m .total ≤ 2 ^ capacity x) (d .set-kept) (h .within now);
+    }
+
+pub sums : (cs : List Call) (l : Ledger) → Sums l (run l cs) (accepted l cs)
+unfolding charges
+sums = by-calls Sums (λ l. record { set-stays = refl; key-stays = refl; sum = omega arith; within = λ k. k }) one-sum
+
+-- ---- the nonces
+
+pub record Rises (l m : Ledger) (cs : List Call) : Type 0 where
+  pub rise : l .begun ≡ true → RisingFrom (number (l .last)) (nonces cs)
+  pub rise-new : Rising (nonces cs)
+  pub begin : (N : List ℕ) → Among N (nonces cs) → consoleOf N ≡ l .console
+
+one-rise : (l m : Ledger) (c : Call) (cs : List Call) → answerOn l c ≡ 0 → Rises (after l c) m cs → Rises l m (c ∷ cs)
+unfolding nonces after
+one-rise l m (seals s) cs e h =
     let n = after-sealed l s e in
-    let a : accepted l (c ∷ cs) ≡ c ∷ accepted (after l c) cs = rw e refl in
-    let up : RisingFrom (number (s .nonce)) (nonces (accepted (after l c) cs)) = subst (λ (N : List ℕ). RisingFrom (number N) (nonces (accepted (after l c) cs))) (ap (λ (m : Ledger). m .last) n) (h .rise (ap (λ (m : Ledger). m .begun) n)) in
+    let up : RisingFrom (number (s .nonce)) (nonces cs) = subst (λ (N : List ℕ). RisingFrom (number N) (nonces cs)) (ap (λ (x : Ledger). x .last) n) (h .rise (ap (λ (x : Ledger). x .begun) n)) in
     record {
-      sum = h .sum ∙ ap (λ (t : ℕ). t + charges (accepted (after l c) cs)) (d .total-is) ∙ add-assoc (l .total) (chargeOf c) (charges (accepted (after l c) cs)) ∙ sym (ap (λ (x : List Call). l .total + charges x) a);
-      within = λ k. subst (λ (x : ℕ). run (after l c) cs .total ≤ 2 ^ capacity x) (d .set-kept) (h .within (subst (λ (x : ℕ). after l c .total ≤ 2 ^ capacity x) (sym (d .set-kept)) (d .within)));
-      rise = λ b. subst (λ (x : List Call). RisingFrom (number (l .last)) (nonces x)) (sym a) (above-last l s e b, up);
-      rise-new = subst (λ (x : List Call). Rising (nonces x)) (sym a) up;
-      begin = λ N m.
-          ⊎-elim (λ (x : N ≡ s .nonce). ap consoleOf x ∙ begins-with l s e) (λ (x : Among N (nonces (accepted (after l c) cs))). h .begin N x ∙ d .console-kept)
-          (subst (λ (x : List Call). Among N (nonces x)) a m);
+      rise = λ b. (above-last l s e b, up);
+      rise-new = up;
+      begin = λ N i.
+          ⊎-elim (λ (x : N ≡ s .nonce). ap consoleOf x ∙ begins-with l s e) (λ (x : Among N (nonces cs)). h .begin N x ∙ adds l (seals s) e .console-kept) i;
+    }
+one-rise l m (keeps k) cs e h =
+    let n = kept-nonce l (k .name) (k .ad) in
+    record {
+      rise = λ b. subst (λ (N : List ℕ). RisingFrom (number N) (nonces cs)) (n .1) (h .rise (n .0 ∙ b));
+      rise-new = h .rise-new;
+      begin = λ N i. h .begin N i ∙ adds l (keeps k) e .console-kept;
     }
 
-on-refused : (l : Ledger) (c : Call) (cs : List Call) → (answerOn l c ≡ 0 → ⊥) → Holds l cs → Holds l (c ∷ cs)
-unfolding run accepted
-on-refused l c cs n h =
-    let w = after-refused l c n .0 in
-    let a : accepted l (c ∷ cs) ≡ accepted l cs =
-    ap₂ (λ (x : Bool) (m : Ledger). cond x (c ∷ accepted m cs) (accepted m cs)) (ne-eqb (answerOn l c) 0 n) w in
-    let r : run l (c ∷ cs) ≡ run l cs = ap (λ (m : Ledger). run m cs) w in
-    record {
-      sum = ap (λ (m : Ledger). m .total) r ∙ h .sum ∙ sym (ap (λ (x : List Call). l .total + charges x) a);
-      within = λ k. subst (λ (m : Ledger). m .total ≤ 2 ^ capacity (l .set)) (sym r) (h .within k);
-      rise = λ b. subst (λ (x : List Call). RisingFrom (number (l .last)) (nonces x)) (sym a) (h .rise b);
-      rise-new = subst (λ (x : List Call). Rising (nonces x)) (sym a) (h .rise-new);
-      begin = λ N m. h .begin N (subst (λ (x : List Call). Among N (nonces x)) a m);
-    }
+pub rises : (cs : List Call) (l : Ledger) → Rises l (run l cs) (accepted l cs)
+unfolding nonces
+rises = by-calls Rises (λ l. record { rise = λ b. tt; rise-new = tt; begin = λ N i. absurd i }) one-rise
 
-by-answer : (l : Ledger) (c : Call) (cs : List Call) → ((m : Ledger) → Holds m cs) → Holds l (c ∷ cs)
-by-answer l c cs h = go (eqb (answerOn l c) 0) refl
-  where
-    go : (x : Bool) → eqb (answerOn l c) 0 ≡ x → Holds l (c ∷ cs)
-    go true e = on-accepted l c cs (eqb-true (answerOn l c) 0 e) (h (after l c))
-    go false e = on-refused l c cs (eqb-false (answerOn l c) 0 e) (h l)
+-- ---- what is under a name
 
-pub holds : (cs : List Call) (l : Ledger) → Holds l cs
-unfolding run accepted charges nonces
-holds [] l = record { sum = omega arith; within = λ k. k; rise = λ b. tt; rise-new = tt; begin = λ N m. absurd m }
-holds (c ∷ cs) l = by-answer l c cs (λ m. holds cs m)
+-- a heading x by the data last kept there, with their sum by H
+abbrev pub Under : Bool → Heading → (List ℕ → List ℕ) → Option (List ℕ) → Type 0
+Under name x H none = name && x .kept ≡ false
+Under name x H (some A) = (name && x .kept ≡ true) × (x .sum ≡ H A) × (length A ≤ 4096)
+
+module _ (name : ℕ) where
+  abbrev pub On : Ledger → Option (List ℕ) → Type 0
+  On l o = Under (isName name) (headingAt l name) (sumOf l) o
+
+  -- where the ledger has eight headings, as each value has
+  abbrev pub Names : Ledger → Ledger → List Call → Type 0
+  Names l m cs = (o : Option (List ℕ)) → length (l .headings) ≡ 8 → On l o → On m (lastKept name o cs)
+
+  one-kept : (l : Ledger) (k : Keeping) (o : Option (List ℕ)) → answerOn l (keeps k) ≡ 0 → length (l .headings) ≡ 8 → On l o →
+      On (keeping l (k .name) (sumOf l (k .ad)) (chargeOf (keeps k))) (cond (eqb (k .name) name) (some (k .ad)) o)
+  unfolding answerOn headingAt isName sumOf keyOf
+  one-kept l k o e n u = go (eqb (k .name) name) refl
+    where
+      go : (x : Bool) → eqb (k .name) name ≡ x → On (keeping l (k .name) (sumOf l (k .ad)) (chargeOf (keeps k))) (cond (eqb (k .name) name) (some (k .ad)) o)
+      go true f =
+          let i : k .name ≡ name = eqb-true (k .name) name f in
+          let a = keep-accepted l (k .name) (length (k .ad)) e in
+          let low = ltb-true (k .name) 8 (a .is-name) in
+          let same = getD-set-same (l .headings) (k .name) (record { kept = true; sum = sumOf l (k .ad) }) (record { kept = false; sum = [] }) (omega (arith, n, low)) in
+          rw f
+          (subst (λ (j : ℕ). Under (isName j) (headingAt (keeping l (k .name) (sumOf l (k .ad)) (chargeOf (keeps k))) j) (sumOf l) (some (k .ad))) i
+          (subst (λ (x : Heading). Under (isName (k .name)) x (sumOf l) (some (k .ad))) (sym same) (ap (λ (b : Bool). b && true) (a .is-name), refl, a .data-limit)))
+      go false f =
+          let other = getD-set-other (l .headings) (k .name) name (record { kept = true; sum = sumOf l (k .ad) }) (record { kept = false; sum = [] }) (λ i. eqb-false (k .name) name f (sym i)) in
+          rw f (subst (λ (x : Heading). Under (isName name) x (sumOf l) o) (sym other) u)
+
+  one-name : (l m : Ledger) (c : Call) (cs : List Call) → answerOn l c ≡ 0 → Names (after l c) m cs → Names l m (c ∷ cs)
+  unfolding lastKept headingAt sumOf keyOf
+  one-name l m (seals s) cs e h o n u =
+      let w = after-sealed l s e in
+      h o (subst (λ (x : Ledger). length (x .headings) ≡ 8) (sym w) n) (subst (λ (x : Ledger). On x o) (sym w) u)
+  one-name l m (keeps k) cs e h o n u =
+      let w = after-kept l k e in
+      h _ (subst (λ (x : Ledger). length (x .headings) ≡ 8) (sym w) (length-set (l .headings) (k .name) _ ∙ n))
+      (subst (λ (x : Ledger). On x (cond (eqb (k .name) name) (some (k .ad)) o)) (sym w) (one-kept l k o e n u))
+
+  pub names : (cs : List Call) (l : Ledger) → Names l (run l cs) (accepted l cs)
+  unfolding lastKept
+  names = by-calls Names (λ l o n u. u) one-name

@@ -1,34 +1,102 @@
 -- The theorems of the ledger.
 -- Assumes nothing.
-use mathlib.Core.Path.{refl, sym, subst, _∙_}
+use mathlib.Core.Path.{_≡_, refl, sym, ap, subst, _∙_}
+use mathlib.Core.Bool.{Bool, true, false, _&&_, false≢true}
+use mathlib.Core.List.{List, []}
+use mathlib.Core.Option.{Option, none, some}
+use Prim.Native.Nat.{ℕ, zero, suc, _-_, _≤_}
 use native.Mathlib.Omega.{arith}
-use lib.ListN.{length}
+use lib.ListN.{length, getD, replicate, length-append}
+use lib.Seq.{take-at}
 use Rattle.answers.specs.Rows.{numbers, isIn, ownNumbers}
 use Rattle.answers.proofs.RowLaws.{decides}
+use Rattle.cba_mode.specs.Sets.{keyBytes}
 use Rattle.cba_mode.specs.Charge.{charge}
+use Rattle.cba_rules.specs.Refusals.{SealCall}
 use Rattle.cba_rules.proofs.SetLaws.{key-most}
-use Rattle.ledger_rules.specs.Ledger.{Ledger, fresh, makeRows, makeAnswer}
-use Rattle.ledger_rules.specs.Runs.{answerOn, outputOn, Kept, LedgerTheorems}
-use Rattle.ledger_rules.proofs.Runs.{after-refused, holds}
+use Rattle.ledger_rules.specs.Ledger.{Heading, Ledger, fresh, makeRows, makeAnswer, keyOf, headingAt, isName, isKept, ledgerAnswer, ledgerOutput}
+use Rattle.ledger_rules.specs.Ledger.Source.{given, named}
+use Rattle.ledger_rules.specs.Runs.{Call, after, run, accepted, lastKept, isSome, Counted, ByName, LedgerTheorems}
+use Rattle.ledger_rules.proofs.LedgerLaws.{make-accepted, made-fresh, made-none, ledger-decides, ledger-accepted, named-kept, given-name, given-plain, named-plain, keep-decides, kept-nonce, never-stale, takes-first}
+use Rattle.ledger_rules.proofs.Runs.{after-refused, sums, rises, On, names}
 use Rattle.ledger_rules.proofs.Capacity.{takes-more, takes-no-more, filled-up}
-use Rattle.ledger_rules.proofs.LedgerLaws.{never-stale, takes-first, made-fresh, made-none, ledger-decides, ledger-accepted, ledger-plain}
+
+-- ---- headings, from a fresh ledger
+
+module _ (set : ℕ) (key : List ℕ) (console : ℕ) (made : makeAnswer set key ≡ 0) (cs : List Call) where
+  abbrev new : Ledger
+  new = fresh set key console
+
+  -- nothing is kept under any name at first
+  none-kept : (n name : ℕ) → getD {A = Heading} (replicate n (record { kept = false; sum = replicate 16 0 })) name (record { kept = false; sum = [] }) .kept ≡ false
+  none-kept zero name = refl
+  none-kept (suc n) zero = refl
+  none-kept (suc n) (suc name) = none-kept n name
+
+  no-false : (x y : Bool) → y ≡ false → x && y ≡ false
+  no-false true y h = h
+  no-false false y h = refl
+
+  under : (name : ℕ) → On name (run new cs) (lastKept name none (accepted new cs))
+  unfolding headingAt
+  under name = names name cs new none refl (no-false (isName name) _ (none-kept 8 name))
+
+  kept-so : (name : ℕ) → isKept (run new cs) name ≡ isSome (lastKept name none (accepted new cs))
+  unfolding isKept isSome
+  kept-so name = go (lastKept name none (accepted new cs)) (under name)
+    where
+      go : (o : Option (List ℕ)) → On name (run new cs) o → isKept (run new cs) name ≡ isSome o
+      go none u = u
+      go (some A) u = u .0
+
+  -- the set and the key that a call uses are still those of the making
+  its-key : (run new cs .set ≡ set) × (keyOf (run new cs) ≡ key) × (keyBytes (run new cs .set) ≤ length (run new cs .key))
+  unfolding keyOf
+  its-key =
+      let s = sums cs new in
+      let k = make-accepted set key made .1 in
+      rw (s .set-stays, s .key-stays) (refl, take-at key (replicate (32 - length key) 0) (keyBytes set) k, omega (arith, k, length-append key (replicate (32 - length key) 0)))
+
+  named-so : (name : ℕ) (N M out : List ℕ) → ledgerAnswer (run new cs) N (named name) (length M) (length out) ≡ 0 → ByName new set key cs name N M out
+  unfolding isSome
+  named-so name N M out e = go (lastKept name none (accepted new cs)) refl (under name)
+    where
+      go : (o : Option (List ℕ)) → lastKept name none (accepted new cs) ≡ o → On name (run new cs) o → ByName new set key cs name N M out
+      go none f u = absurd (false≢true (sym (kept-so name ∙ ap isSome f) ∙ named-kept (run new cs) N name (length M) (length out) e))
+      go (some A) f u =
+          let i = its-key in
+          record {
+            ad = A;
+            last-kept = f;
+            plain = subst (λ (k : List ℕ). SealCall set k N A M out 0 (ledgerOutput (run new cs) N (named name) M out)) (i .1)
+                (subst (λ (s : ℕ). SealCall s (keyOf (run new cs)) N A M out 0 (ledgerOutput (run new cs) N (named name) M out)) (i .0)
+                (named-plain (run new cs) N name A M out (u .2) (u .1) (i .2) e));
+          }
 
 pub ledger-theorems : LedgerTheorems
-unfolding makeAnswer makeRows numbers isIn ownNumbers answerOn outputOn charge
+unfolding makeAnswer makeRows numbers isIn ownNumbers charge after
 ledger-theorems =
     record {
       making = λ set key. decides (makeRows set (length key)) refl;
       sealing = ledger-decides;
+      keeping = keep-decides;
+      not-name = given-name;
       unmade = made-none;
-      kept = λ set key console cs e.
-          let h = holds cs (fresh set key console) in
-          subst (λ (l : Ledger). Kept l cs) (sym (made-fresh set key console e)) (record { total = h .sum ∙ omega arith; most = h .within (omega arith); rising = h .rise-new });
-      plain = λ l s k e.
-          let a = ledger-accepted l (s .nonce) (length (s .ad)) (length (s .message)) (length (s .out)) e in
-          ledger-plain l (s .nonce) (s .ad) (s .message) (s .out) (omega (arith, key-most (l .set) (a .is-set), k)) e;
+      counted = λ set key console cs e.
+          let h = sums cs (fresh set key console) in
+          subst (λ (l : Ledger). Counted l cs) (sym (made-fresh set key console e))
+          (record { total = h .sum ∙ omega arith; most = h .within (omega arith); rising = rises cs (fresh set key console) .rise-new });
+      plain = λ l N A M out k e.
+          given-plain l N A M out (omega (arith, key-most (l .set) (ledger-accepted l N (given A) (length M) (length out) e .is-set), k)) e;
+      by-name = λ set key console cs name N M out e.
+          subst (λ (l : Ledger). ledgerAnswer (run l cs) N (named name) (length M) (length out) ≡ 0 → ByName l set key cs name N M out) (sym (made-fresh set key console e))
+          (named-so set key console e cs name N M out);
+      is-kept = λ set key console cs name e.
+          subst (λ (l : Ledger). isKept (run l cs) name ≡ isSome (lastKept name none (accepted l cs))) (sym (made-fresh set key console e)) (kept-so set key console e cs name);
+      no-nonce = λ l k. kept-nonce l (k .name) (k .ad);
       refused = after-refused;
-      begins = λ l cs. holds cs l .begin;
-      apart = λ k l cs ds N n x y. n (sym (holds cs k .begin N x) ∙ holds ds l .begin N y);
+      begins = λ l cs. rises cs l .begin;
+      apart = λ k l cs ds N n x y. n (sym (rises cs k .begin N x) ∙ rises ds l .begin N y);
       not-stale = never-stale;
       takes = takes-first;
       full = λ key console M out g. filled-up g .total-is;

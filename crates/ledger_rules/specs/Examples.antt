@@ -1,4 +1,4 @@
--- Example calls on a ledger: one fault each, then each with all that follow it, by lengths alone, and the answer.
+-- Example calls on a ledger: one fault each, then each with all that follow it, and the answer.
 -- Assumes nothing.
 use mathlib.Core.Bool.{Bool, true, _&&_}
 use mathlib.Core.List.{List, [], _∷_, _++_}
@@ -6,7 +6,8 @@ use Prim.Native.Nat.{ℕ, _-_}
 use lib.Dec.{eqb}
 use lib.ListN.{getD, take, replicate}
 use Rattle.answers.specs.Rows.{answer}
-use Rattle.ledger_rules.specs.Ledger.{Ledger, makeRows, ledgerAnswer}
+use Rattle.ledger_rules.specs.Ledger.{Ledger, noHeadings, makeRows, Source, ledgerAnswer, keepAnswer}
+use Rattle.ledger_rules.specs.Ledger.Source.{given}
 
 -- the answer, then set and key
 abbrev pub makings : List (List ℕ)
@@ -20,9 +21,19 @@ makesSo (c ∷ cs) = eqb (answer (makeRows (getD c 1 0) (getD c 2 0))) (getD c 0
 abbrev nonceOf : ℕ → ℕ → ℕ → ℕ → List ℕ
 nonceOf n first second last = take n (first ∷ second ∷ (replicate (n - 3) 0 ++ (last ∷ [])))
 
--- a ledger of a set, a console and a total, begun, whose last nonce is the number 1: the nonce of another console, but for console 0
+-- a ledger of a set, a console and a total, begun, whose last nonce is the number 1: the nonce of another console, but for console 0;
+-- something is kept under the name 7
 abbrev at : ℕ → ℕ → ℕ → Ledger
-at set console total = record { set = set; key = replicate 32 0; console = console; total = total; begun = true; last = nonceOf 12 0 0 1 }
+at set console total =
+    record {
+      set = set;
+      key = replicate 32 0;
+      console = console;
+      total = total;
+      begun = true;
+      last = nonceOf 12 0 0 1;
+      headings = lib.ListN.set noHeadings 7 (record { kept = true; sum = replicate 16 0 });
+    }
 
 -- the answer, then set, console and total, the nonce's length, its first two bytes and its last, data, message and room
 abbrev pub sealings : List (List ℕ)
@@ -53,9 +64,52 @@ sealings =
     ∷ (9 ∷ 1 ∷ 0 ∷ 65536 ∷ 12 ∷ 0 ∷ 0 ∷ 1 ∷ 4096 ∷ 65536 ∷ 65540 ∷ [])
     ∷ []
 
-unfoldable pub sealsSo : List (List ℕ) → Bool
-sealsSo [] = true
-sealsSo (c ∷ cs) =
+-- by name, with the name in place of the data
+abbrev pub namings : List (List ℕ)
+namings =
+    (0 ∷ 1 ∷ 0 ∷ 61440 ∷ 12 ∷ 0 ∷ 0 ∷ 2 ∷ 7 ∷ 65536 ∷ 65540 ∷ [])
+    ∷ (0 ∷ 1 ∷ 0 ∷ 65536 ∷ 12 ∷ 0 ∷ 0 ∷ 2 ∷ 7 ∷ 0 ∷ 4 ∷ [])
+    ∷ (13 ∷ 1 ∷ 0 ∷ 0 ∷ 12 ∷ 0 ∷ 0 ∷ 2 ∷ 0 ∷ 0 ∷ 16 ∷ [])
+    ∷ (13 ∷ 1 ∷ 0 ∷ 0 ∷ 12 ∷ 0 ∷ 0 ∷ 2 ∷ 8 ∷ 0 ∷ 16 ∷ [])
+    ∷ (13 ∷ 1 ∷ 0 ∷ 0 ∷ 12 ∷ 0 ∷ 0 ∷ 2 ∷ 4294967295 ∷ 0 ∷ 16 ∷ [])
+    ∷ (10 ∷ 1 ∷ 0 ∷ 65535 ∷ 12 ∷ 0 ∷ 0 ∷ 2 ∷ 7 ∷ 17 ∷ 21 ∷ [])
+    ∷ (1 ∷ 0 ∷ 1 ∷ 65536 ∷ 11 ∷ 0 ∷ 0 ∷ 1 ∷ 8 ∷ 65537 ∷ 0 ∷ [])
+    ∷ (3 ∷ 1 ∷ 1 ∷ 65536 ∷ 11 ∷ 0 ∷ 0 ∷ 1 ∷ 8 ∷ 65537 ∷ 0 ∷ [])
+    ∷ (12 ∷ 1 ∷ 1 ∷ 65536 ∷ 12 ∷ 0 ∷ 0 ∷ 1 ∷ 8 ∷ 65537 ∷ 0 ∷ [])
+    ∷ (13 ∷ 1 ∷ 0 ∷ 65536 ∷ 12 ∷ 0 ∷ 0 ∷ 1 ∷ 6 ∷ 65537 ∷ 0 ∷ [])
+    ∷ (5 ∷ 1 ∷ 0 ∷ 65536 ∷ 12 ∷ 0 ∷ 0 ∷ 1 ∷ 7 ∷ 65537 ∷ 0 ∷ [])
+    ∷ (7 ∷ 1 ∷ 0 ∷ 65536 ∷ 12 ∷ 0 ∷ 0 ∷ 1 ∷ 7 ∷ 65536 ∷ 0 ∷ [])
+    ∷ (9 ∷ 1 ∷ 0 ∷ 65536 ∷ 12 ∷ 0 ∷ 0 ∷ 1 ∷ 7 ∷ 65536 ∷ 65540 ∷ [])
+    ∷ []
+
+unfoldable pub sealsSo : (ℕ → Source) → List (List ℕ) → Bool
+sealsSo source [] = true
+sealsSo source (c ∷ cs) =
     let l = at (getD c 1 0) (getD c 2 0) (getD c 3 0) in
     let N = nonceOf (getD c 4 0) (getD c 5 0) (getD c 6 0) (getD c 7 0) in
-    eqb (ledgerAnswer l N (getD c 8 0) (getD c 9 0) (getD c 10 0)) (getD c 0 0) && sealsSo cs
+    eqb (ledgerAnswer l N (source (getD c 8 0)) (getD c 9 0) (getD c 10 0)) (getD c 0 0) && sealsSo source cs
+
+-- data of so many bytes
+abbrev pub zeros : ℕ → Source
+zeros n = given (replicate n 0)
+
+-- the answer, then set and total, name and data
+abbrev pub keepings : List (List ℕ)
+keepings =
+    (0 ∷ 1 ∷ 65280 ∷ 0 ∷ 4096 ∷ [])
+    ∷ (0 ∷ 1 ∷ 65536 ∷ 7 ∷ 0 ∷ [])
+    ∷ (0 ∷ 10 ∷ 65536 ∷ 7 ∷ 1 ∷ [])
+    ∷ (1 ∷ 0 ∷ 0 ∷ 0 ∷ 0 ∷ [])
+    ∷ (13 ∷ 1 ∷ 0 ∷ 8 ∷ 0 ∷ [])
+    ∷ (13 ∷ 1 ∷ 0 ∷ 4294967295 ∷ 0 ∷ [])
+    ∷ (4 ∷ 1 ∷ 0 ∷ 0 ∷ 4097 ∷ [])
+    ∷ (10 ∷ 1 ∷ 65536 ∷ 0 ∷ 1 ∷ [])
+    ∷ (10 ∷ 1 ∷ 65535 ∷ 0 ∷ 17 ∷ [])
+    ∷ (1 ∷ 11 ∷ 65536 ∷ 8 ∷ 4097 ∷ [])
+    ∷ (13 ∷ 1 ∷ 65536 ∷ 8 ∷ 4097 ∷ [])
+    ∷ (4 ∷ 1 ∷ 65536 ∷ 7 ∷ 4097 ∷ [])
+    ∷ []
+
+unfoldable pub keepsSo : List (List ℕ) → Bool
+keepsSo [] = true
+keepsSo (c ∷ cs) = eqb (keepAnswer (at (getD c 1 0) 0 (getD c 2 0)) (getD c 3 0) (getD c 4 0)) (getD c 0 0) && keepsSo cs

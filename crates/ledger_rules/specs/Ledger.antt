@@ -1,20 +1,29 @@
--- The key ledger of document 01, with request F-2 of document 02: what a making and a sealing answer, the next ledger, and the output.
+-- The key ledger of document 01, with requests F-2 and F-3 of document 02: what a making, a sealing and a keeping answer, the next ledger,
+-- and the output.
 -- Assumes nothing.
 use mathlib.Core.Path.{_≡_}
 use mathlib.Core.Bool.{Bool, true, false, cond, not, _&&_}
 use mathlib.Core.List.{List, [], _∷_, _++_}
 use Prim.Native.Nat.{ℕ, _+_, _-_, _^_}
 use lib.Dec.{eqb, ltb, leb}
-use lib.ListN.{length, take, replicate}
+use lib.ListN.{length, take, replicate, getD}
 use Rattle.octets.specs.Numbers.{number}
+use Rattle.fips197.specs.Cipher.{cipher}
 use Rattle.answers.specs.Rows.{Row, answer}
-use Rattle.cba_mode.specs.Sets.{keyBytes, capacity}
+use Rattle.cba_mode.specs.Sets.{keyBytes, tagBits, capacity}
+use Rattle.cba_mode.specs.Data.{dataHash}
+use Rattle.cba_mode.specs.Seal.{sealWith}
 use Rattle.cba_mode.specs.Charge.{charge}
 use Rattle.cba_rules.specs.Checks.{setTag, badSet, badKey, badNonce, longData, messageRows}
 use Rattle.cba_rules.specs.Refusals.{sealing, sealLeaves}
 
--- the set, the key with zeros after it up to 32 bytes, the number of the console that seals, the total of blocks charged, and the last
--- accepted nonce, where one has begun it
+-- what is kept under a name, document 02's heading: whether there is something, and the sum of the data
+pub record Heading : Type 0 where
+  pub kept : Bool
+  pub sum : List ℕ
+
+-- the set, the key with zeros after it up to 32 bytes, the number of the console that seals, the total of blocks charged, the last
+-- accepted nonce, where one has begun it, and what is kept under the eight names
 pub record Ledger : Type 0 where
   pub set : ℕ
   pub key : List ℕ
@@ -22,10 +31,16 @@ pub record Ledger : Type 0 where
   pub total : ℕ
   pub begun : Bool
   pub last : List ℕ
+  pub headings : List Heading
 
--- no ledger: set 0, a key of zeros, console 0, total 0 and no nonce
+-- nothing under any name
+abbrev pub noHeadings : List Heading
+noHeadings = replicate 8 (record { kept = false; sum = replicate 16 0 })
+
+-- no ledger: set 0, a key of zeros, console 0, total 0, no nonce and no heading
 abbrev pub noLedger : Ledger
-noLedger = record { set = 0; key = replicate 32 0; console = 0; total = 0; begun = false; last = replicate 12 0 }
+noLedger =
+    record { set = 0; key = replicate 32 0; console = 0; total = 0; begun = false; last = replicate 12 0; headings = noHeadings }
 
 -- ---- making: 1, then 2
 
@@ -35,15 +50,23 @@ makeRows set key = badSet set ∷ badKey (keyBytes set) key ∷ []
 unfoldable pub makeAnswer : ℕ → List ℕ → ℕ
 makeAnswer set key = answer (makeRows set (length key))
 
--- a fresh ledger: the key with zeros after it, total 0 and no nonce
+-- a fresh ledger: the key with zeros after it, total 0, no nonce and no heading
 abbrev pub fresh : ℕ → List ℕ → ℕ → Ledger
 fresh set key console =
-    record { set = set; key = key ++ replicate (32 - length key) 0; console = console; total = 0; begun = false; last = replicate 12 0 }
+    record {
+      set = set;
+      key = key ++ replicate (32 - length key) 0;
+      console = console;
+      total = 0;
+      begun = false;
+      last = replicate 12 0;
+      headings = noHeadings;
+    }
 
 unfoldable pub madeLedger : ℕ → List ℕ → ℕ → Ledger
 madeLedger set key console = cond (eqb (makeAnswer set key) 0) (fresh set key console) noLedger
 
--- ---- sealing: 1, 3, 12, 4, 5, 7, 9, 10
+-- ---- what the calls look at
 
 -- the key's first bytes, as many as the set's key has
 unfoldable pub keyOf : Ledger → List ℕ
@@ -69,35 +92,116 @@ stale l N = l .begun && leb (number N) (number (l .last))
 unfoldable pub spent : Ledger → ℕ → Bool
 spent l c = ltb (2 ^ capacity (l .set)) (l .total + c)
 
+abbrev pub noBlocks : Bool → Row
+noBlocks spent = record { number = 10; when = spent }
+
 -- the ledger's own checks
 abbrev pub ownRows : Bool → Bool → List Row
-ownRows stale spent = record { number = 9; when = stale } ∷ record { number = 10; when = spent } ∷ []
+ownRows stale spent = record { number = 9; when = stale } ∷ noBlocks spent ∷ []
+
+-- what there is under a name
+unfoldable pub headingAt : Ledger → ℕ → Heading
+headingAt l name = getD (l .headings) name (record { kept = false; sum = [] })
+
+-- a name is 0 to 7; a sealing asks for one with something kept
+unfoldable pub isName : ℕ → Bool
+isName name = ltb name 8
+
+unfoldable pub isKept : Ledger → ℕ → Bool
+isKept l name = isName name && headingAt l name .kept
+
+-- 13, name: not such a one
+abbrev pub badName : Bool → Row
+badName good = record { number = 13; when = not good }
+
+-- ---- sealing with data that are given: 1, 3, 12, 4, 5, 7, 9, 10; by name: 1, 3, 12, 13, 5, 7, 9, 10
+
+-- the associated data of a sealing: given, or those kept under a name
+pub data Source : Type 0 where
+  given : List ℕ → Source
+  named : ℕ → Source
+
+-- their check
+unfoldable pub sourceRow : Ledger → Source → Row
+sourceRow l (given A) = longData (length A)
+sourceRow l (named name) = badName (isKept l name)
+
+-- the charge, for a message of so many bytes: by name it is the message's alone
+unfoldable pub sealCharge : Source → ℕ → ℕ
+sealCharge (given A) message = charge (length A) message
+sealCharge (named name) message = charge 0 message
 
 -- in order; after the set, by its t
-abbrev pub ledgerChecks : ℕ → ℕ → List ℕ → ℕ → ℕ → ℕ → List Row
-ledgerChecks t console N ad message out = nonceRows console N ++ (longData ad ∷ messageRows t message out)
+abbrev pub ledgerChecks : ℕ → ℕ → List ℕ → Row → ℕ → ℕ → List Row
+ledgerChecks t console N source message out = nonceRows console N ++ (source ∷ messageRows t message out)
 
-unfoldable pub ledgerRows : Ledger → List ℕ → ℕ → ℕ → ℕ → List Row
-ledgerRows l N ad message out =
-    badSet (l .set) ∷ (ledgerChecks (setTag (l .set)) (l .console) N ad message out ++ ownRows (stale l N) (spent l (charge ad message)))
+unfoldable pub ledgerRows : Ledger → List ℕ → Source → ℕ → ℕ → List Row
+ledgerRows l N S message out =
+    badSet (l .set)
+    ∷ (ledgerChecks (setTag (l .set)) (l .console) N (sourceRow l S) message out ++ ownRows (stale l N) (spent l (sealCharge S message)))
 
-unfoldable pub ledgerAnswer : Ledger → List ℕ → ℕ → ℕ → ℕ → ℕ
-ledgerAnswer l N ad message out = answer (ledgerRows l N ad message out)
+unfoldable pub ledgerAnswer : Ledger → List ℕ → Source → ℕ → ℕ → ℕ
+ledgerAnswer l N S message out = answer (ledgerRows l N S message out)
 
 -- a charge added and a nonce kept, all else as before
 abbrev pub charged : Ledger → List ℕ → ℕ → Ledger
-charged l N c = record { set = l .set; key = l .key; console = l .console; total = l .total + c; begun = true; last = N }
+charged l N c =
+    record { set = l .set; key = l .key; console = l .console; total = l .total + c; begun = true; last = N; headings = l .headings }
 
 -- the next ledger: accepted, charged; refused, as before
-unfoldable pub nextLedger : Ledger → List ℕ → ℕ → ℕ → ℕ → Ledger
-nextLedger l N ad message out = cond (eqb (ledgerAnswer l N ad message out) 0) (charged l N (charge ad message)) l
+unfoldable pub nextLedger : Ledger → List ℕ → Source → ℕ → ℕ → Ledger
+nextLedger l N S message out = cond (eqb (ledgerAnswer l N S message out) 0) (charged l N (sealCharge S message)) l
 
--- the output: accepted, plain sealing's; refused, as before
-unfoldable pub ledgerOutput : Ledger → List ℕ → List ℕ → List ℕ → List ℕ → List ℕ
-ledgerOutput l N A M out = sealLeaves (ledgerAnswer l N (length A) (length M) (length out)) (sealing (l .set) (keyOf l) N A M) out
+-- what is written: with data that are given plain sealing's; by name ENC after its first step, T_A being the first t bytes of the sum
+unfoldable pub ledgerSealing : Ledger → List ℕ → Source → List ℕ → List ℕ
+ledgerSealing l N (given A) M = sealing (l .set) (keyOf l) N A M
+ledgerSealing l N (named name) M =
+    sealWith (cipher (keyOf l)) (tagBits (l .set)) (capacity (l .set)) N (take (setTag (l .set)) (headingAt l name .sum)) M
+
+-- the output: accepted, that and the bytes after it as before; refused, as before
+unfoldable pub ledgerOutput : Ledger → List ℕ → Source → List ℕ → List ℕ → List ℕ
+ledgerOutput l N S M out = sealLeaves (ledgerAnswer l N S (length M) (length out)) (ledgerSealing l N S M) out
 
 -- what a sealing promises: its answer r, the next ledger l′, and out′, the output at exit
-pub record LedgerCall (l : Ledger) (N A M out : List ℕ) (r : ℕ) (l′ : Ledger) (out′ : List ℕ) : Type 0 where
-  pub answer-is : r ≡ ledgerAnswer l N (length A) (length M) (length out)
-  pub next-is : l′ ≡ nextLedger l N (length A) (length M) (length out)
-  pub output-is : out′ ≡ ledgerOutput l N A M out
+pub record LedgerCall (l : Ledger) (N : List ℕ) (S : Source) (M out : List ℕ) (r : ℕ) (l′ : Ledger) (out′ : List ℕ) : Type 0 where
+  pub answer-is : r ≡ ledgerAnswer l N S (length M) (length out)
+  pub next-is : l′ ≡ nextLedger l N S (length M) (length out)
+  pub output-is : out′ ≡ ledgerOutput l N S M out
+
+-- ---- keeping: 1, 13, 4, 10
+
+-- the charge of data of so many bytes
+abbrev pub keepCharge : ℕ → ℕ
+keepCharge ad = charge ad 0
+
+unfoldable pub keepRows : Ledger → ℕ → ℕ → List Row
+keepRows l name ad = badSet (l .set) ∷ badName (isName name) ∷ longData ad ∷ noBlocks (spent l (keepCharge ad)) ∷ []
+
+unfoldable pub keepAnswer : Ledger → ℕ → ℕ → ℕ
+keepAnswer l name ad = answer (keepRows l name ad)
+
+-- the data's sum H under the ledger's set and key, before the cut to τ bits
+unfoldable pub sumOf : Ledger → List ℕ → List ℕ
+sumOf l A = dataHash (cipher (keyOf l)) (tagBits (l .set)) (capacity (l .set)) A
+
+-- a charge added and a sum kept under a name, all else as before
+abbrev pub keeping : Ledger → ℕ → List ℕ → ℕ → Ledger
+keeping l name sum blocks =
+    record {
+      set = l .set;
+      key = l .key;
+      console = l .console;
+      total = l .total + blocks;
+      begun = l .begun;
+      last = l .last;
+      headings = lib.ListN.set (l .headings) name (record { kept = true; sum = sum });
+    }
+
+-- the next ledger: accepted, the sum kept; refused, as before
+unfoldable pub keptLedger : Ledger → ℕ → List ℕ → Ledger
+keptLedger l name A = cond (eqb (keepAnswer l name (length A)) 0) (keeping l name (sumOf l A) (keepCharge (length A))) l
+
+-- what a keeping promises: its answer r and the next ledger l′
+pub record KeepCall (l : Ledger) (name : ℕ) (A : List ℕ) (r : ℕ) (l′ : Ledger) : Type 0 where
+  pub answer-is : r ≡ keepAnswer l name (length A)
+  pub next-is : l′ ≡ keptLedger l name A

@@ -1,48 +1,60 @@
--- Lists of calls on one ledger, what is owed to the capacity and to the nonces, and lists on two ledgers.
+-- Lists of calls on one ledger, what is owed to the capacity, to the nonces and to sealings by name, and lists on two ledgers.
 -- Assumes nothing.
 use mathlib.Core.Path.{_≡_}
-use mathlib.Core.Bool.{cond}
+use mathlib.Core.Bool.{Bool, true, false, cond}
 use mathlib.Core.List.{List, [], _∷_, _++_}
 use mathlib.Core.Logic.{_⊎_}
+use mathlib.Core.Option.{Option, none, some}
 use Prim.Native.Nat.{ℕ, zero, suc, _+_, _^_, _<_, _≤_}
 use lib.Dec.{eqb}
 use lib.ListN.{length}
 use Rattle.octets.specs.Numbers.{number, digits}
 use Rattle.answers.specs.Rows.{Decides}
 use Rattle.cba_mode.specs.Sets.{capacity}
-use Rattle.cba_mode.specs.Charge.{charge}
 use Rattle.cba_rules.specs.Checks.{setTag}
 use Rattle.cba_rules.specs.Refusals.{SealCall}
-use Rattle.ledger_rules.specs.Ledger.{Ledger, noLedger, makeRows, makeAnswer, madeLedger, keyOf, consoleOf, ledgerRows, ledgerAnswer, nextLedger, ledgerOutput}
+use Rattle.ledger_rules.specs.Ledger.{Ledger, noLedger, makeRows, makeAnswer, madeLedger, keyOf, consoleOf, isKept, Source, sealCharge, ledgerRows, ledgerAnswer, nextLedger, ledgerOutput, keepCharge, keepRows, keepAnswer, keptLedger}
+use Rattle.ledger_rules.specs.Ledger.Source.{given, named}
 
 -- what one sealing is given
 pub record Sealing : Type 0 where
   pub nonce : List ℕ
-  pub ad : List ℕ
+  pub source : Source
   pub message : List ℕ
   pub out : List ℕ
+
+-- and one keeping
+pub record Keeping : Type 0 where
+  pub name : ℕ
+  pub ad : List ℕ
 
 -- a call on a ledger
 pub data Call : Type 0 where
   seals : Sealing → Call
+  keeps : Keeping → Call
 
 unfoldable pub answerOn : Ledger → Call → ℕ
-answerOn l (seals s) = ledgerAnswer l (s .nonce) (length (s .ad)) (length (s .message)) (length (s .out))
+answerOn l (seals s) = ledgerAnswer l (s .nonce) (s .source) (length (s .message)) (length (s .out))
+answerOn l (keeps k) = keepAnswer l (k .name) (length (k .ad))
 
 -- the ledger after it
 unfoldable pub after : Ledger → Call → Ledger
-after l (seals s) = nextLedger l (s .nonce) (length (s .ad)) (length (s .message)) (length (s .out))
+after l (seals s) = nextLedger l (s .nonce) (s .source) (length (s .message)) (length (s .out))
+after l (keeps k) = keptLedger l (k .name) (k .ad)
 
--- the output, at entry and at exit
+-- the output, at entry and at exit; a keeping has none
 unfoldable pub outOf : Call → List ℕ
 outOf (seals s) = s .out
+outOf (keeps k) = []
 
 unfoldable pub outputOn : Ledger → Call → List ℕ
-outputOn l (seals s) = ledgerOutput l (s .nonce) (s .ad) (s .message) (s .out)
+outputOn l (seals s) = ledgerOutput l (s .nonce) (s .source) (s .message) (s .out)
+outputOn l (keeps k) = []
 
 -- what an accepted call charges
 unfoldable pub chargeOf : Call → ℕ
-chargeOf (seals s) = charge (length (s .ad)) (length (s .message))
+chargeOf (seals s) = sealCharge (s .source) (length (s .message))
+chargeOf (keeps k) = keepCharge (length (k .ad))
 
 -- the ledger after a list of calls
 unfoldable pub run : Ledger → List Call → Ledger
@@ -59,10 +71,21 @@ unfoldable pub charges : List Call → ℕ
 charges [] = 0
 charges (c ∷ cs) = chargeOf c + charges cs
 
--- their nonces
+-- the nonces of the sealings among them, with data that are given and by name
 unfoldable pub nonces : List Call → List (List ℕ)
 nonces [] = []
 nonces (seals s ∷ cs) = s .nonce ∷ nonces cs
+nonces (keeps k ∷ cs) = nonces cs
+
+-- the data of the last keeping under a name among them; those that were kept there before, where there is none
+unfoldable pub lastKept : ℕ → Option (List ℕ) → List Call → Option (List ℕ)
+lastKept name before [] = before
+lastKept name before (seals s ∷ cs) = lastKept name before cs
+lastKept name before (keeps k ∷ cs) = lastKept name (cond (eqb (k .name) name) (some (k .ad)) before) cs
+
+unfoldable pub isSome : Option (List ℕ) → Bool
+isSome none = false
+isSome (some A) = true
 
 -- as numbers each is above the one before it, the first above n
 abbrev pub RisingFrom : ℕ → List (List ℕ) → Type 0
@@ -78,8 +101,8 @@ abbrev pub Among : List ℕ → List (List ℕ) → Type 0
 Among N [] = ⊥
 Among N (K ∷ Ns) = (N ≡ K) ⊎ Among N Ns
 
--- what a list of calls from l keeps
-pub record Kept (l : Ledger) (cs : List Call) : Type 0 where
+-- what a list of calls from l counts
+pub record Counted (l : Ledger) (cs : List Call) : Type 0 where
   pub total : run l cs .total ≡ charges (accepted l cs)
   pub most : run l cs .total ≤ 2 ^ capacity (l .set)
   pub rising : Rising (nonces (accepted l cs))
@@ -92,7 +115,7 @@ nonceOf console n = digits 2 console ++ digits 10 n
 unfoldable pub repeated : ℕ → ℕ → List ℕ → List ℕ → List Call
 repeated console zero M out = []
 repeated console (suc n) M out =
-    repeated console n M out ++ (seals (record { nonce = nonceOf console (suc n); ad = []; message = M; out = out }) ∷ [])
+    repeated console n M out ++ (seals (record { nonce = nonceOf console (suc n); source = given []; message = M; out = out }) ∷ [])
 
 -- set 1 after sixteen messages of 65,536 bytes
 abbrev pub filled : List ℕ → ℕ → List ℕ → List ℕ → Ledger
@@ -105,18 +128,38 @@ pub record Filling (key : List ℕ) (console : ℕ) (M out : List ℕ) : Type 0 
   pub message-length : length M ≡ 65536
   pub out-room : 65540 ≤ length out
 
+-- what is owed to a sealing by name that is accepted after a list of calls from l: data were kept there, and its answer and output are
+-- those of plain sealing with the data last kept there
+pub record ByName (l : Ledger) (set : ℕ) (key : List ℕ) (cs : List Call) (name : ℕ) (N M out : List ℕ) : Type 0 where
+  pub ad : List ℕ
+  pub last-kept : lastKept name none (accepted l cs) ≡ some ad
+  pub plain : SealCall set key N ad M out 0 (ledgerOutput (run l cs) N (named name) M out)
+
 pub record LedgerTheorems : Type 0 where
-  -- a making and a sealing answer by their rows, on any ledger
+  -- a making, a sealing of either kind and a keeping answer by their rows, on any ledger
   pub making : (set : ℕ) (key : List ℕ) → Decides (makeRows set (length key)) (makeAnswer set key)
-  pub sealing : (l : Ledger) (N : List ℕ) (ad message out : ℕ) → Decides (ledgerRows l N ad message out) (ledgerAnswer l N ad message out)
+  pub sealing : (l : Ledger) (N : List ℕ) (S : Source) (message out : ℕ) →
+      Decides (ledgerRows l N S message out) (ledgerAnswer l N S message out)
+  pub keeping : (l : Ledger) (name ad : ℕ) → Decides (keepRows l name ad) (keepAnswer l name ad)
+  -- a sealing with data that are given never answers 13
+  pub not-name : (l : Ledger) (N A : List ℕ) (message out : ℕ) → ledgerAnswer l N (given A) message out ≡ 13 → ⊥
   -- a refused making has zeros in every field
   pub unmade : (set : ℕ) (key : List ℕ) (console : ℕ) → (makeAnswer set key ≡ 0 → ⊥) → madeLedger set key console ≡ noLedger
   -- for every list of calls from a fresh ledger, one just made and not refused
-  pub kept : (set : ℕ) (key : List ℕ) (console : ℕ) (cs : List Call) → makeAnswer set key ≡ 0 → Kept (madeLedger set key console) cs
-  -- an accepted sealing, on any ledger, has the answer and the output of plain sealing under the ledger's set and key; in a ledger
-  -- value the key has 32 bytes
-  pub plain : (l : Ledger) (s : Sealing) → length (l .key) ≡ 32 → answerOn l (seals s) ≡ 0 →
-      SealCall (l .set) (keyOf l) (s .nonce) (s .ad) (s .message) (s .out) 0 (outputOn l (seals s))
+  pub counted : (set : ℕ) (key : List ℕ) (console : ℕ) (cs : List Call) → makeAnswer set key ≡ 0 → Counted (madeLedger set key console) cs
+  -- an accepted sealing with data that are given, on any ledger, has the answer and the output of plain sealing under the ledger's set and
+  -- key; in a ledger value the key has 32 bytes
+  pub plain : (l : Ledger) (N A M out : List ℕ) → length (l .key) ≡ 32 → ledgerAnswer l N (given A) (length M) (length out) ≡ 0 →
+      SealCall (l .set) (keyOf l) N A M out 0 (ledgerOutput l N (given A) M out)
+  -- after every list of calls from a fresh ledger, an accepted sealing by name has those of plain sealing with the data last kept there
+  pub by-name : (set : ℕ) (key : List ℕ) (console : ℕ) (cs : List Call) (name : ℕ) (N M out : List ℕ) → makeAnswer set key ≡ 0 →
+      ledgerAnswer (run (madeLedger set key console) cs) N (named name) (length M) (length out) ≡ 0 →
+      ByName (madeLedger set key console) set key cs name N M out
+  -- and in a sealing a name passes check 13 exactly where an accepted keeping was under it
+  pub is-kept : (set : ℕ) (key : List ℕ) (console : ℕ) (cs : List Call) (name : ℕ) → makeAnswer set key ≡ 0 →
+      isKept (run (madeLedger set key console) cs) name ≡ isSome (lastKept name none (accepted (madeLedger set key console) cs))
+  -- a keeping, on any ledger, leaves the last nonce
+  pub no-nonce : (l : Ledger) (k : Keeping) → (after l (keeps k) .begun ≡ l .begun) × (after l (keeps k) .last ≡ l .last)
   -- every refused call, on any ledger, changes neither the ledger nor the output
   pub refused : (l : Ledger) (c : Call) → (answerOn l c ≡ 0 → ⊥) → (after l c ≡ l) × (outputOn l c ≡ outOf c)
   -- every nonce that a list of calls on any ledger accepts begins with the ledger's number
@@ -125,14 +168,15 @@ pub record LedgerTheorems : Type 0 where
   pub apart : (k l : Ledger) (cs ds : List Call) (N : List ℕ) → (k .console ≡ l .console → ⊥) →
       Among N (nonces (accepted k cs)) → Among N (nonces (accepted l ds)) → ⊥
   -- a fresh ledger never answers 9: it takes any nonce of 12 bytes that begins with its number
-  pub not-stale : (set : ℕ) (key : List ℕ) (console : ℕ) (N : List ℕ) (ad message out : ℕ) →
-      ledgerAnswer (madeLedger set key console) N ad message out ≡ 9 → ⊥
-  pub takes : (set : ℕ) (key : List ℕ) (console : ℕ) (N : List ℕ) (ad message out : ℕ) → makeAnswer set key ≡ 0 → length N ≡ 12 → consoleOf N ≡ console →
-      ad ≤ 4096 → message ≤ 65536 → message + setTag set ≤ out → ledgerAnswer (madeLedger set key console) N ad message out ≡ 0
+  pub not-stale : (set : ℕ) (key : List ℕ) (console : ℕ) (N : List ℕ) (S : Source) (message out : ℕ) →
+      ledgerAnswer (madeLedger set key console) N S message out ≡ 9 → ⊥
+  pub takes : (set : ℕ) (key : List ℕ) (console : ℕ) (N A : List ℕ) (message out : ℕ) → makeAnswer set key ≡ 0 →
+      length N ≡ 12 → consoleOf N ≡ console → length A ≤ 4096 → message ≤ 65536 → message + setTag set ≤ out →
+      ledgerAnswer (madeLedger set key console) N (given A) message out ≡ 0
   -- on set 1 sixteen messages of 65,536 bytes fill the capacity
   pub full : (key : List ℕ) (console : ℕ) (M out : List ℕ) → Filling key console M out → filled key console M out .total ≡ 65536
   -- then one block more is refused, and a charge of 0 is accepted
   pub over : (key : List ℕ) (console : ℕ) (M out : List ℕ) (room : ℕ) → Filling key console M out → 5 ≤ room →
-      ledgerAnswer (filled key console M out) (nonceOf console 17) 0 1 room ≡ 10
+      ledgerAnswer (filled key console M out) (nonceOf console 17) (given []) 1 room ≡ 10
   pub nothing : (key : List ℕ) (console : ℕ) (M out : List ℕ) (room : ℕ) → Filling key console M out → 4 ≤ room →
-      ledgerAnswer (filled key console M out) (nonceOf console 17) 0 0 room ≡ 0
+      ledgerAnswer (filled key console M out) (nonceOf console 17) (given []) 0 room ≡ 0

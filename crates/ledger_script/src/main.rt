@@ -1,20 +1,35 @@
 // Runs a script of ledger calls: for each record of standard input, a line with the call's answer, each
-// field of the ledger after it and, of a sealing, the output.
+// field of the ledger after it and, of a sealing, the output. Of each name the line has - for nothing at
+// all, else whether something is kept, a colon and the sum.
 //
 // A record has 64 bytes, with numbers big-endian; bytes that are not named are not looked at.
 //   make: byte 0 is 0; 1..5 the set, 5..7 the console, 7 the key's length, 8.. the key
 //   put:  byte 0 is 1; 1..5 the set, 5..37 the key, 37..39 the console, 39..47 the total, 47 whether there
-//         is a last nonce, 48..60 that nonce: the ledger is these values, whatever they are
+//         is a last nonce, 48..60 that nonce: the ledger is these values, whatever they are, with nothing
+//         kept under any name
 //   seal: byte 0 is 2; 1 the nonce's length, 2..5, 5..8 and 8..11 the lengths of data, message and output,
 //         11 and 12 the seeds of data and message, 13.. the nonce
 //   lent: byte 0 is 3; the rest as for seal. The ledger is lent to the call, which changes it in place
+//   hold: byte 0 is 4; 1 a name, 7 where it is above, 2 whether something is kept there, 3..19 the sum:
+//         what the ledger has there is these values, whatever they are
+//   keep: byte 0 is 5; 1..5 the name, 5..8 the data's length, 8 their seed
+//   name: byte 0 is 6; 1..5 the name, 5 the nonce's length, 6..9 and 9..12 the lengths of message and
+//         output, 12 the message's seed, 13.. the nonce
 //
 // Data, message and what the output holds before a call are made from their seeds by `fill`; the output's
 // seed is 165. The files stdin and stdout beside src/ are what tests/ledger_model writes, the
 // ledger written a second time, which ./test makes again and compares.
+mod lines;
+
+use crate::lines::print_call;
+use crate::lines::print_ledger;
+use crate::lines::print_number;
+use crate::lines::print_output;
+use ledger::Heading;
 use ledger::Ledger;
+use ledger::NOTHING;
+use ledger::Outcome;
 use libc::STDIN_FILENO;
-use libc::STDOUT_FILENO;
 ghost use Prim.Native.Nat.{_≤_};
 ghost use Rattle.ledger.specs.Values.{Ran};
 
@@ -53,78 +68,13 @@ fn fill(s: &mut [u8], seed: u8) {
     }
 }
 
-// A string as a big-endian number modulo the prime 2^56 - 5, by which a long output is shown.
-fn residue(s: &[u8]) -> u64 {
-    let mut r = 0u64;
-    let mut i = 0;
-    while i < s.len() {
-        r = (r * 256 + s[i] as u64) % 72057594037927931;
-        i += 1;
-    }
-    r
-}
-
-fn print_make() {
-    io::write_all(STDOUT_FILENO, b"make");
-}
-
-fn print_put() {
-    io::write_all(STDOUT_FILENO, b"put -");
-}
-
-fn print_seal() {
-    io::write_all(STDOUT_FILENO, b"seal");
-}
-
-fn print_lent() {
-    io::write_all(STDOUT_FILENO, b"lent");
-}
-
-fn print_number(n: u64) {
-    show::space();
-    io::print_decimal(STDOUT_FILENO, n);
-}
-
-fn print_bytes(s: &[u8]) {
-    show::space();
-    show::bytes(s);
-}
-
-fn print_nothing() {
-    io::write_all(STDOUT_FILENO, b" -");
-}
-
-// A long one by its length and its residue.
-fn print_output(out: &[u8]) {
-    if out.len() == 0 {
-        print_nothing();
-    } else if out.len() > 64 {
-        print_number(out.len() as u64);
-        show::space();
-        io::print_hex(STDOUT_FILENO, residue(out), 14);
-    } else {
-        print_bytes(out);
-    }
-}
-
-fn print_ledger(l: Ledger) {
-    let key = l.key;
-    let last = l.last;
-    print_number(l.set as u64);
-    print_bytes(&key);
-    print_number(l.console as u64);
-    print_number(l.total);
-    print_number(l.begun as u64);
-    print_bytes(&last);
-}
-
 fn made(r: [u8; 64]) -> Ledger {
     let end = 8 + least(r[7] as usize, 56);
     let set = number(r[1], r[2], r[3], r[4]);
     let console = short_number(r[5], r[6]);
     let m = ledger::make(set, &r[8..end], console);
     let l = m.ledger;
-    print_make();
+    print_call(0);
     print_number(m.answer as u64);
     print_ledger(l);
     show::line_end();
@@ -145,63 +95,79 @@ fn hand_made(r: [u8; 64]) -> Ledger {
         total: long_number(high, low),
         begun: r[47] != 0,
         last: last,
+        headings: [NOTHING; 8],
     }
 }
 
 fn put(r: [u8; 64]) -> Ledger {
     let l = hand_made(r);
-    print_put();
+    print_call(1);
     print_ledger(l);
     show::line_end();
     l
 }
 
-// The first word of a sealing's line.
-fn print_kind(kind: u8) {
-    if kind == 3 {
-        print_lent();
-    } else {
-        print_seal();
-    }
+fn hold(l: Ledger, r: [u8; 64]) -> Ledger {
+    let i = least(r[1] as usize, 7);
+    let mut sum = [0u8; 16];
+    octets::put(&mut sum, &r[3..19]);
+    let mut after = l;
+    after.headings[i] = Heading {
+        kept: r[2] != 0,
+        sum: sum,
+    };
+    print_call(4);
+    print_ledger(after);
+    show::line_end();
+    after
 }
 
-fn print_sealed(kind: u8, s: ledger::Sealed, out: &[u8]) {
-    print_kind(kind);
+// A call's answer and the ledger after it.
+fn print_outcome(kind: u8, s: Outcome) {
+    print_call(kind);
     print_number(s.answer as u64);
     let l = s.ledger;
     print_ledger(l);
+}
+
+fn print_sealed(kind: u8, s: Outcome, out: &[u8]) {
+    print_outcome(kind, s);
     print_output(out);
     show::line_end();
 }
 
+// A keeping of data that have the record's length.
+fn keep(l: Ledger, r: [u8; 64], ad: &mut [u8]) -> Ledger {
+    fill(ad, r[8]);
+    let name = number(r[1], r[2], r[3], r[4]);
+    let s = l.keep(name, ad);
+    print_outcome(5, s);
+    show::line_end();
+    let next = s.ledger;
+    next
+}
+
+// The same in a buffer, of which it takes as much as the record says.
+fn keep_in(l: Ledger, r: [u8; 64], ad: &mut [u8]) -> Ledger {
+    let h = least(length(r[5], r[6], r[7]), ad.len());
+    keep(l, r, &mut ad[..h])
+}
+
 // Lends its ledger, and gives back what the call by value does.
-fn seal_lent(
-    mut l: Ledger,
-    nonce: &[u8],
-    ad: &[u8],
-    message: &[u8],
-    out: &mut [u8],
-) -> ledger::Sealed
+fn seal_lent(mut l: Ledger, nonce: &[u8], ad: &[u8], message: &[u8], out: &mut [u8]) -> Outcome
     ensures { λ r. ⌜
         Ran l (now (nonce .entry)) (now (ad .entry)) (now (message .entry)) (now (out .entry)) (r .answer) (r .ledger) (now (out .exit))
         ⌝ }
 {
     let answer = ledger::seal_in_place(&mut l, nonce, ad, message, out);
-    ledger::Sealed {
+    Outcome {
         answer: answer,
         ledger: l,
     }
 }
 
 // The call that the record's kind says. Both promise the same.
-fn seal_by(
-    kind: u8,
-    l: Ledger,
-    nonce: &[u8],
-    ad: &[u8],
-    message: &[u8],
-    out: &mut [u8],
-) -> ledger::Sealed
+fn seal_by(kind: u8, l: Ledger, nonce: &[u8], ad: &[u8], message: &[u8], out: &mut [u8]) -> Outcome
     ensures { λ r. ⌜
         Ran l (now (nonce .entry)) (now (ad .entry)) (now (message .entry)) (now (out .entry)) (r .answer) (r .ledger) (now (out .exit))
         ⌝ }
@@ -233,12 +199,39 @@ fn seal_in(l: Ledger, r: [u8; 64], ad: &mut [u8], message: &mut [u8], out: &mut 
     seal(l, r, &mut ad[..h], &mut message[..t], &mut out[..o])
 }
 
+// A sealing by name of strings that have the record's lengths.
+fn seal_named(l: Ledger, r: [u8; 64], message: &mut [u8], out: &mut [u8]) -> Ledger {
+    fill(message, r[12]);
+    fill(out, 165);
+    let end = 13 + least(r[5] as usize, 51);
+    let name = number(r[1], r[2], r[3], r[4]);
+    let s = l.sealed_by_name(name, &r[13..end], message, out);
+    print_sealed(6, s, out);
+    let next = s.ledger;
+    next
+}
+
+fn seal_named_in(l: Ledger, r: [u8; 64], message: &mut [u8], out: &mut [u8]) -> Ledger {
+    let t = least(length(r[6], r[7], r[8]), message.len());
+    let o = least(length(r[9], r[10], r[11]), out.len());
+    seal_named(l, r, &mut message[..t], &mut out[..o])
+}
+
 fn step(l: Ledger, r: [u8; 64], ad: &mut [u8], message: &mut [u8], out: &mut [u8]) -> Ledger {
     if r[0] == 0 {
         return made(r);
     }
     if r[0] == 1 {
         return put(r);
+    }
+    if r[0] == 4 {
+        return hold(l, r);
+    }
+    if r[0] == 5 {
+        return keep_in(l, r, ad);
+    }
+    if r[0] == 6 {
+        return seal_named_in(l, r, message, out);
     }
     seal_in(l, r, ad, message, out)
 }

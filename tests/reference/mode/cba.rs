@@ -223,6 +223,12 @@ impl Cba {
 impl Cba {
     /// function ENC(K, N, A, M); None is the symbol for invalid.
     pub fn ENC(&self, K: &impl Blockcipher, N: &Bits, A: &Bits, M: &Bits) -> Option<Bits> {
+        let T_A = self.H(K, A);
+        self.ENC_with(K, N, T_A, M)
+    }
+
+    /// ENC after its first statement, with any T_A in {0,1}^tau.
+    pub fn ENC_with(&self, K: &impl Blockcipher, N: &Bits, T_A: Bits, M: &Bits) -> Option<Bits> {
         let Cba { n, nu, tau, b, l } = *self;
         let pad = |A: &Bits| pad_i(n, A);
         // Inputs that do not conform to the assumptions: N in {0,1}^nu.
@@ -230,7 +236,6 @@ impl Cba {
             return None;
         }
 
-        let T_A = self.H(K, A);
         let R = K.E(cat![zero(n - nu - 16), i_8(tau), i_8(b), N]);
         let mut Delta = F(2, 2, rotr(cat![MSB(n - l - 2, &R), one(l + 2)], l / 2 + 1));
         if M.len() <= l {
@@ -360,6 +365,13 @@ impl Cba {
 
     /// function H(K, A)
     pub fn H(&self, K: &impl Blockcipher, A: &Bits) -> Bits {
+        let S = self.H_sum(K, A);
+        let T_A = MSB(self.tau, S);
+        T_A
+    }
+
+    /// H before its last statement: the sum S in {0,1}^n.
+    pub fn H_sum(&self, K: &impl Blockcipher, A: &Bits) -> Bits {
         let Cba { n, tau, b, .. } = *self;
         let pad = |A: &Bits| pad_i(n, A);
         // A_1 ... A_a <- A where |A_i| = n for 1 <= i <= a-1, |A_a| < n
@@ -377,8 +389,7 @@ impl Cba {
             Delta = F(3, 3, Delta);
             S = S ^ K.E(pad(&A[a]) ^ Delta);
         }
-        let T_A = MSB(tau, S);
-        T_A
+        S
     }
 }
 

@@ -48,11 +48,11 @@ use denote.Exit.{yes}
 use denote.Signature.{Slot, plain, shrSliceOf}
 use Rattle.ledger.specs.Values.{Ran}
 use Rattle.ledger.specs.declared.ledger.Ledger.{Ledger}
-use Rattle.ledger.specs.declared.ledger.Sealed.{Sealed}
+use Rattle.ledger.specs.declared.ledger.Outcome.{Outcome}
 use Rattle.ledger.proofs.ledger.Ledger as T
 use Rattle.ledger.proofs.ledger.Ledger.Laws as T′
-use Rattle.ledger.proofs.ledger.Sealed as S
-use Rattle.ledger.proofs.ledger.Sealed.Laws as S′
+use Rattle.ledger.proofs.ledger.Outcome as S
+use Rattle.ledger.proofs.ledger.Outcome.Laws as S′
 use Rattle.ledger.proofs.seal_in_place as seal-in-place
 use Rattle.ledger.proofs.seal_in_place.Symbol as seal-in-place-def
 use Rattle.ledger.proofs.seal_in_place.Symbol.{name as #seal-in-place}
@@ -93,10 +93,10 @@ SliceVals = List Val × (List Val × (List Val × (List Val × Unit {0})))
 abbrev mach : Ledger → Val
 mach d = LL.val T.the-type T′.the-laws d
 
-abbrev result : ℕ → Ledger → Sealed
+abbrev result : ℕ → Ledger → Outcome
 result n l = record { answer = n; ledger = l }
 
-abbrev mach-result : Sealed → Val
+abbrev mach-result : Outcome → Val
 mach-result r = LL.val S.the-type S′.the-laws r
 
 result-is : (n : ℕ) (l : Ledger) → n < 2 ^ 32 → Is T.the-row l (mach l ∷ []) → Is S.the-row (result n l) (mach-result (result n l) ∷ [])
@@ -164,7 +164,7 @@ module _ {M : Type 1} (𝓤 : URA M) (H : Heap 𝓤) (A : Atoms 𝓤) (W : Given
       → ent 𝓤 (sep 𝓤 (A .lft (α ∷ []) fullShare) (sep 𝓤 (toks 𝓤 A 4 κs qs) (sem 𝓤 H A (owns (rows α) (lent b γ, xs) (vptr b 0 ∷ [], sliceVals))))) (Callee 𝓤 H A at-mem run .pre (to-callee b α γ))
   goes b α γ = qed W (‵ (flft (α ∷ []) fullShare) ∷ raw (toks 𝓤 A 4 κs qs) ∷ ‵ (owns (rows α) (lent b γ, xs) (vptr b 0 ∷ [], sliceVals)) ∷ []) ∵ join ! $ join ! $ frame ! $ done !
 
-  exits : (r : Sealed) (zs : List ℕ) → Is S.the-row r (mach-result r ∷ []) → Ensured (r .answer) (r .ledger) zs → length zs ≡ length (now out)
+  exits : (r : Outcome) (zs : List ℕ) → Is S.the-row r (mach-result r ∷ []) → Ensured (r .answer) (r .ledger) zs → length zs ≡ length (now out)
       → ent 𝓤 (sep 𝓤 (toks 𝓤 A 4 κs qs) (sem 𝓤 H A (finally u8 (out .name) zs))) (Post (mach-result r))
   exits r zs is e same =
       qed W (raw (toks 𝓤 A 4 κs qs) ∷ ‵ (finally u8 (out .name) zs) ∷ []) ∵

@@ -45,11 +45,11 @@ use denote.Exit.{yes}
 use denote.Signature.{Slot, plain, shrSliceOf}
 use Rattle.ledger.specs.Values.{Ran}
 use Rattle.ledger.specs.declared.ledger.Ledger.{Ledger}
-use Rattle.ledger.specs.declared.ledger.Sealed.{Sealed}
+use Rattle.ledger.specs.declared.ledger.Outcome.{Outcome}
 use Rattle.ledger.proofs.ledger.Ledger as T
 use Rattle.ledger.proofs.ledger.Ledger.Laws as T′
-use Rattle.ledger.proofs.ledger.Sealed as S
-use Rattle.ledger.proofs.ledger.Sealed.Laws as S′
+use Rattle.ledger.proofs.ledger.Outcome as S
+use Rattle.ledger.proofs.ledger.Outcome.Laws as S′
 use Rattle.ledger.proofs.ledger.Ledger.sealed as sealed
 use Rattle.ledger.proofs.ledger.Ledger.sealed.Symbol as sealed-def
 use Rattle.ledger.proofs.ledger.Ledger.sealed.Symbol.{name as #sealed}
@@ -87,11 +87,11 @@ SliceVals = List Val × (List Val × (List Val × (List Val × Unit {0})))
 abbrev mach : Ledger → Val
 mach d = LL.val T.the-type T′.the-laws d
 
--- what whoever holds a `Sealed` knows of its fields
-fits : (r : Sealed) (w : Val) → Is S.the-row r (w ∷ []) → r .answer < 2 ^ 32
+-- what whoever holds an `Outcome` knows of its fields
+fits : (r : Outcome) (w : Val) → Is S.the-row r (w ∷ []) → r .answer < 2 ^ 32
 fits r w is = LL.owed S.the-type S′.the-laws r _ is .0 .1
 
-next-is : (r : Sealed) (w : Val) → Is S.the-row r (w ∷ []) → Is T.the-row (r .ledger) (mach (r .ledger) ∷ [])
+next-is : (r : Outcome) (w : Val) → Is S.the-row r (w ∷ []) → Is T.the-row (r .ledger) (mach (r .ledger) ∷ [])
 next-is r w is = LL.owed S.the-type S′.the-laws r _ is .1 .0
 
 module _ {M : Type 1} (𝓤 : URA M) (H : Heap 𝓤) (A : Atoms 𝓤) (W : Given 𝓤 H A) (at-mem : Memory → SProp 𝓤) (run : Routine → Fun 𝓤)
@@ -172,7 +172,7 @@ module _ {M : Type 1} (𝓤 : URA M) (H : Heap 𝓤) (A : Atoms 𝓤) (W : Given
         calls-at ! fm (Callee 𝓤 H A at-mem run) known to-sealed
         (and-then ! (load ! (from ! (stop !)) (look ! 11 refl)) (and-then ! (load ! (from ! (stop !)) (look ! 19 refl)) (and-then ! (load ! (from ! (stop !)) (look ! 17 refl))
         (and-then ! (load ! (from ! (stop !)) (look ! 15 refl)) (and-then ! (load ! (from ! (stop !)) (look ! 5 refl)) (no-more !)))))) (λ w.
-        use1 W (later (some (λ (r : Sealed). (raw (toks 𝓤 A 4 κs qs) ⊛ ‵ (S.the-row .own r (w ∷ []))) ⊛
+        use1 W (later (some (λ (r : Outcome). (raw (toks 𝓤 A 4 κs qs) ⊛ ‵ (S.the-row .own r (w ∷ []))) ⊛
         raw (ensured 𝓤 H A sealed.ended (sealed.clauses 𝓤 H A at-mem run) κs (h, xs) tt r)))) (id⊢ 𝓤 _) $ await ! tt $ pick ! (λ r.
         -- what it ensures, at some last list of out
         split ! $ move ! (1 ∷ []) $ use1 W (some (λ (zs : Unit {0} × (Unit {0} × (Unit {0} × (Unit {0} × (List ℕ × Unit {0}))))).
