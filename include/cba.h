@@ -37,10 +37,11 @@ extern "C" {
    to make a ciphertext that opens.
 
    All sealings under one key use at most 2 to the capacity of blocks. One uses ceil(data_len / 16)
-   + ceil(text_len / 16). These calls do not count; a ledger does (crates/ledger, for callers in
-   Rattle), one for each console that seals under the key. The console's number is in the first two
-   bytes of its nonces, so that no two consoles share one. That the ledgers of a key have different
-   numbers, and that their totals together stay at 2 to the capacity, is the hub's to see to.
+   + ceil(text_len / 16), and counts as one where that is 0. These calls do not count; a ledger does
+   (crates/ledger, for callers in Rattle), one for each console that seals under the key. The
+   console's number is in the first two bytes of its nonces, so that no two consoles share one. That
+   the ledgers of a key have different numbers, and that their totals together stay at 2 to the
+   capacity, is the hub's to see to.
 
    Each pointer is to as many bytes as its length says. Where that is 0 the pointer is not used, and
    may be NULL or any other. out must not overlap an input, so that nothing is sealed or opened in

@@ -1,7 +1,8 @@
 //! Random calls, with some refusals wished for.
 
 use super::headings::{Heading, NAMES};
-use super::model::{capacity, ByName, Call, Keeping, Ledger, Sealing};
+use super::model::{capacity, Ledger};
+use super::model_calls::{ByName, Call, Keeping, Sealing};
 use super::records::MOST_HEADER;
 use crate::shared::expected::{set, MOST_DATA, MOST_TEXT};
 use crate::shared::inputs::DATA;
@@ -15,12 +16,13 @@ enum Kind {
 }
 
 impl Kind {
-    /// The refusals that a call can be made for; the ledger decides on 1.
+    /// The refusals that a call can be made for; the ledger decides on 1. 10 is wished for more often than the others,
+    /// for not every ledger is near its capacity.
     fn wishes(self) -> &'static [usize] {
         match self {
-            Kind::Seal => &[3, 4, 5, 7, 9, 10, 12],
-            Kind::Keep => &[4, 10, 13],
-            Kind::Name => &[3, 5, 7, 9, 10, 12, 13],
+            Kind::Seal => &[3, 4, 5, 7, 9, 10, 10, 12],
+            Kind::Keep => &[4, 10, 10, 13],
+            Kind::Name => &[3, 5, 7, 9, 10, 10, 12, 13],
         }
     }
 }
@@ -44,8 +46,10 @@ impl Random {
         let left = most.saturating_sub(ledger.total as u128);
         let blocks = left + spent as u128;
         let near = left <= 16 || blocks <= most_blocks as u128 && self.one_in(8);
-        if near && (spent || !self.one_in(4)) {
-            let blocks = blocks as usize;
+        if near && (spent || self.one_in(2)) {
+            // A newer ledger charges a block for none as well.
+            let none = ledger.heartbeats && blocks == 1 && self.one_in(2);
+            let blocks = if none { 0 } else { blocks as usize };
             let most_data = blocks.min(most_data / 16);
             let least_data = blocks.saturating_sub(most_text / 16);
             let data = least_data + self.below(most_data - least_data + 1);
@@ -115,8 +119,17 @@ impl Random {
         name.unwrap_or_else(|| self.any_name())
     }
 
-    /// A call on the ledger, with some of the refusals wished for.
+    /// A call on the ledger, with some of the refusals wished for. Carryings are seldom, so that an older ledger has
+    /// some calls before the first one.
     pub fn call(&mut self, ledger: &Ledger) -> Call {
+        let carryings = match (set(ledger.set), ledger.heartbeats) {
+            (None, _) => 6,
+            (Some(_), false) => 8,
+            (Some(_), true) => 16,
+        };
+        if self.one_in(carryings) {
+            return Call::Carry;
+        }
         let kind = match self.below(16) {
             0..=4 => Kind::Seal,
             5..=8 => Kind::Keep,

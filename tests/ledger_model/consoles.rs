@@ -22,7 +22,7 @@ pub struct Nonces {
 fn sealing(line: &str) -> Option<(&str, u16, &str)> {
     let words: Vec<&str> = line.split(' ').collect();
     match words[..] {
-        ["seal" | "lent" | "name", answer, _, _, console, _, _, last, ..] => {
+        ["seal" | "lent" | "name", answer, _, _, console, _, _, _, last, ..] => {
             Some((answer, console.parse().ok()?, last))
         }
         _ => None,

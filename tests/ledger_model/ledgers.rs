@@ -1,7 +1,7 @@
 //! Random makings and hand-made ledgers.
 
 use super::headings::{Heading, NAMES, NOTHING};
-use super::model::{capacity, Ledger};
+use super::model::{capacity, make, Ledger};
 use super::numbers::{nonce, start};
 use super::records::Record;
 use crate::shared::expected::{set, NONCE};
@@ -62,11 +62,18 @@ impl Random {
         Record::Make(number, self.console(), self.bytes(length))
     }
 
+    /// A made ledger, but with the older charge.
+    pub fn fresh_older(&mut self) -> Ledger {
+        let number = self.any_set();
+        let key = self.bytes(set(number).expect("a set").key);
+        make(number, self.console(), &key).1.older()
+    }
+
     /// A total: small, at the capacity, at 2^64, or one of these to who looks at some of its bits.
     fn total(&mut self, set: u32) -> u64 {
         let most = capacity(set).unwrap_or(1 << 16) as u64;
         let few = self.below(13) as u64;
-        match self.below(13) {
+        match self.below(16) {
             0 => 0,
             1 => few,
             2..=5 => most - few,
@@ -76,13 +83,14 @@ impl Random {
             9 => self.number() >> self.below(64),
             10 => (1 << self.pick(&[16, 32, 48, 63])) - few,
             11 => most - 250 - few, // the longest charge of a keeping is 256
+            12..=14 => most - 1,    // an empty call fills a newer ledger
             _ => (1 << self.pick(&[31, 32, 47, 48, 63])) + few,
         }
     }
 
     /// Anything, but the last nonce mostly begins with the console number, and half the ledgers have nothing kept.
     pub fn hand_made(&mut self, console: u16) -> Ledger {
-        let set = if self.one_in(12) {
+        let set = if self.one_in(6) {
             self.bad_set()
         } else {
             self.any_set()
@@ -104,6 +112,7 @@ impl Random {
             key: self.bytes(32).try_into().expect("32 bytes"),
             console,
             total: self.total(set),
+            heartbeats: self.one_in(3),
             begun: !self.one_in(3),
             last: last.try_into().expect("12 bytes"),
             headings: self.headings(),

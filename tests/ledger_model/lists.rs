@@ -1,7 +1,8 @@
 //! Random lists of calls.
 
-use super::model::{Call, Ledger, NO_LEDGER};
-use super::records::{by_hand, Record};
+use super::model::{Ledger, NO_LEDGER};
+use super::model_calls::Call;
+use super::records::{answer, by_hand, Record};
 use super::seen::Seen;
 use super::steps::Script;
 use crate::shared::expected::set;
@@ -35,12 +36,23 @@ impl List {
     }
 
     fn add(&mut self, record: Record, seen: &mut Seen) {
-        seen.record(&self.ledger, &record);
+        let before = self.ledger.clone();
         let line = record.line(&mut self.ledger);
-        let answer = line.split(' ').nth(1).expect("an answer");
-        seen.answer(&record, answer.parse().unwrap_or(0));
+        seen.record(&before, &record, answer(&line).parse().unwrap_or(0));
         self.records.push(record);
         self.lines.push(line);
+    }
+
+    /// Another ledger in place of the one there: made, fresh with the older charge, or hand-made.
+    fn another(&mut self, random: &mut Random, seen: &mut Seen) {
+        match random.below(4) {
+            0 => self.add(random.making(), seen),
+            1 => self.put(&random.fresh_older(), seen),
+            _ => {
+                let console = random.console();
+                self.put(&random.hand_made(console), seen);
+            }
+        }
     }
 
     /// Puts a ledger there, with what is kept in it.
@@ -51,7 +63,8 @@ impl List {
     }
 }
 
-/// A made or a hand-made ledger and 1 to 16 calls, seldom with another making between, or something held by hand.
+/// A made, a fresh older or a hand-made ledger and 1 to 16 calls, seldom with another such ledger between, or something
+/// held by hand.
 pub fn list(random: &mut Random, seen: &mut Seen) -> List {
     let mut list = List::new();
     let calls = 1 + random.below(16);
@@ -60,7 +73,7 @@ pub fn list(random: &mut Random, seen: &mut Seen) -> List {
         let again = if set(list.ledger.set).is_some() {
             32
         } else {
-            3
+            4
         };
         if i > 0 && random.one_in(32) {
             let (name, heading) = random.held();
@@ -68,12 +81,8 @@ pub fn list(random: &mut Random, seen: &mut Seen) -> List {
         } else if i > 0 && !random.one_in(again) {
             let call = random.call(&list.ledger);
             list.add(Record::Call(call), seen);
-        } else if random.one_in(2) {
-            list.add(random.making(), seen);
         } else {
-            let console = random.console();
-            let ledger = random.hand_made(console);
-            list.put(&ledger, seen);
+            list.another(random, seen);
         }
     }
     list
@@ -92,7 +101,8 @@ fn consoles(random: &mut Random) -> Vec<u16> {
     all
 }
 
-/// Ledgers of one key for two to four consoles. One time in three their last nonces are hand-made.
+/// Ledgers of one key for two to four consoles, half of them with the older charge. One time in three their last nonces
+/// are hand-made.
 fn ledgers(random: &mut Random, list: &mut List, seen: &mut Seen) -> Vec<Ledger> {
     let number = random.any_set();
     let key = random.bytes(set(number).expect("a set").key);
@@ -101,6 +111,9 @@ fn ledgers(random: &mut Random, list: &mut List, seen: &mut Seen) -> Vec<Ledger>
     for console in consoles(random) {
         list.add(Record::Make(number, console, key.clone()), seen);
         let mut ledger = list.ledger.clone();
+        if random.one_in(2) {
+            ledger = ledger.older();
+        }
         if by_hand {
             let Ledger { begun, last, .. } = random.hand_made(console);
             ledger = Ledger {

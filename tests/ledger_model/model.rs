@@ -1,106 +1,35 @@
-//! The key ledger of document 01, with the console number of F-2 and the kept headings of F-3.
+//! The key ledger of document 01, with the console number of F-2, the kept headings of F-3 and the charges of F-4.
 
 use super::headings::{plain, Heading, NAMES, NOTHING};
+use super::model_calls::{filled, Call};
 use super::numbers::{number, start};
 use crate::shared::expected::{set, MOST_DATA, MOST_TEXT, NONCE};
 use crate::shared::mode::cba::SETS;
 
-#[derive(Clone, Debug)]
+#[derive(Clone, Debug, PartialEq)]
 pub struct Ledger {
     pub set: u32,
     pub key: [u8; 32],
     pub console: u16,
     pub total: u64,
+    pub heartbeats: bool, // whether an empty call is charged a block, or else, by the older charge, nothing
     pub begun: bool,
     pub last: [u8; NONCE],
     pub headings: [Heading; NAMES],
 }
 
-/// What a refused making returns: set 0, a key of zeros, console 0, total 0, no nonce and nothing kept.
+/// What a refused making returns: set 0, a key of zeros, console 0, total 0, the older charge, no nonce and nothing
+/// kept.
 pub const NO_LEDGER: Ledger = Ledger {
     set: 0,
     key: [0; 32],
     console: 0,
     total: 0,
+    heartbeats: false,
     begun: false,
     last: [0; NONCE],
     headings: [NOTHING; NAMES],
 };
-
-/// A sealing: whether the ledger is lent to it, by which only the line's first word differs; the nonce, the lengths
-/// of data, text and output, and the seeds of data and text.
-#[derive(Clone, Debug)]
-pub struct Sealing {
-    pub lent: bool,
-    pub nonce: Vec<u8>,
-    pub data: usize,
-    pub text: usize,
-    pub out: usize,
-    pub seeds: [u8; 2],
-}
-
-/// A keeping: the name, and the length and the seed of the data.
-#[derive(Clone, Debug)]
-pub struct Keeping {
-    pub name: u32,
-    pub data: usize,
-    pub seed: u8,
-}
-
-/// A sealing by name: the name, the nonce, the lengths of text and output, and the text's seed.
-#[derive(Clone, Debug)]
-pub struct ByName {
-    pub name: u32,
-    pub nonce: Vec<u8>,
-    pub text: usize,
-    pub out: usize,
-    pub seed: u8,
-}
-
-#[derive(Clone, Debug)]
-pub enum Call {
-    Seal(Sealing),
-    Keep(Keeping),
-    Name(ByName),
-}
-
-impl Call {
-    fn charge(&self) -> u128 {
-        let blocks = match self {
-            Call::Seal(c) => c.data.div_ceil(16) + c.text.div_ceil(16),
-            Call::Keep(c) => c.data.div_ceil(16),
-            Call::Name(c) => c.text.div_ceil(16),
-        };
-        blocks as u128
-    }
-
-    /// A sealing's.
-    pub fn nonce(&self) -> Option<&Vec<u8>> {
-        match self {
-            Call::Seal(Sealing { nonce, .. }) | Call::Name(ByName { nonce, .. }) => Some(nonce),
-            Call::Keep(_) => None,
-        }
-    }
-
-    /// What the output holds before the call; a keeping has none.
-    fn out(&self) -> Vec<u8> {
-        match self {
-            Call::Seal(Sealing { out, .. }) | Call::Name(ByName { out, .. }) => {
-                filled(*out, OUT_SEED)
-            }
-            Call::Keep(_) => vec![],
-        }
-    }
-}
-
-pub const OUT_SEED: u8 = 165;
-
-/// The string of a length that a seed stands for.
-pub fn filled(length: usize, seed: u8) -> Vec<u8> {
-    (0..length)
-        .map(|i| (seed as usize + i % 251) as u8)
-        .collect()
-}
 
 /// 2^b, where there is such a set.
 pub fn capacity(number: u32) -> Option<u128> {
@@ -118,11 +47,20 @@ pub fn make(number: u32, console: u16, key: &[u8]) -> (u32, Ledger) {
     let mut made = NO_LEDGER;
     made.set = number;
     made.console = console;
+    made.heartbeats = true;
     made.key[..key.len()].copy_from_slice(key);
     (0, made)
 }
 
 impl Ledger {
+    /// The same with the older charge.
+    pub fn older(self) -> Ledger {
+        Ledger {
+            heartbeats: false,
+            ..self
+        }
+    }
+
     /// What stands under a name, where it is one of the eight.
     pub fn heading(&self, name: u32) -> Option<&Heading> {
         self.headings.get(name as usize)
@@ -135,9 +73,9 @@ impl Ledger {
             .collect()
     }
 
-    /// The sum for "spent" is exact: it does not wrap.
+    /// The sum for "spent" is exact: it does not wrap. The charge is the one that the ledger has at the call.
     pub fn sum(&self, call: &Call) -> u128 {
-        self.total as u128 + call.charge()
+        self.total as u128 + call.charge(self.heartbeats) as u128
     }
 
     /// The checks of a call in their order, each with whether it applies. Where there is no set, 7 and 10 have no
@@ -169,6 +107,7 @@ impl Ledger {
                 let kept = self.heading(c.name).is_some_and(|h| h.kept());
                 sealing(&c.nonce, (13, !kept), c.text, c.out)
             }
+            Call::Carry => vec![no_set],
         }
     }
 
@@ -199,9 +138,14 @@ impl Ledger {
                 let text = filled(c.text, c.seed);
                 self.headings[c.name as usize].seal(self.set, [key, &c.nonce, &text])
             }
+            Call::Carry => {
+                next.heartbeats = true;
+                vec![]
+            }
         };
         out[..result.len()].copy_from_slice(&result);
-        next.total = self.sum(call).try_into().expect("at most 2^48");
+        let total = self.sum(call).try_into();
+        next.total = total.expect("10 is refused, and a carrying adds nothing");
         if let Some(nonce) = call.nonce() {
             next.begun = true;
             next.last = nonce[..].try_into().expect("3 is refused");

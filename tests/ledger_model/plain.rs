@@ -2,8 +2,8 @@
 //! with the data that the program last accepted for keeping under that name on that ledger.
 
 use super::headings::Heading;
-use super::model::{filled, ByName, Call, OUT_SEED};
-use super::records::{shown, Record};
+use super::model_calls::{filled, ByName, Call, OUT_SEED};
+use super::records::{answer, shown, Record};
 use crate::shared::expected::{set, SEAL};
 use crate::shared::mode::bytes::from_hex;
 use std::collections::BTreeMap;
@@ -20,7 +20,7 @@ pub struct Plain {
 impl Plain {
     /// A record, and the line that the program has for it.
     pub fn record(&mut self, record: &Record, line: &str) {
-        let accepted = line.split(' ').nth(1) == Some("0");
+        let accepted = answer(line) == "0";
         match record {
             Record::Make(..) | Record::Put(_) => self.kept.clear(),
             // A ledger is put back with the sums of data that were kept.

@@ -1,7 +1,8 @@
 //! The records and lines of crates/ledger_script, as its src/main.rt says.
 
 use super::headings::{Heading, NAMES, NOTHING};
-use super::model::{make, Call, Ledger};
+use super::model::{make, Ledger};
+use super::model_calls::Call;
 use crate::shared::mode::bytes::to_hex;
 
 const LONG: usize = 64; // a longer output is shown by its residue
@@ -15,6 +16,11 @@ pub enum Record {
     Put(Ledger),             // with nothing kept
     Hold(u8, Heading),       // a name, and what the ledger has there
     Call(Call),
+}
+
+/// What a line has for an answer, which is - where the record makes a ledger by hand.
+pub fn answer(line: &str) -> &str {
+    line.split(' ').nth(1).unwrap_or("-")
 }
 
 /// As lines show an output.
@@ -74,6 +80,7 @@ fn call_bytes(call: &Call) -> Vec<u8> {
             &c.nonce,
         ]
         .concat(),
+        Call::Carry => vec![7],
     }
 }
 
@@ -96,6 +103,7 @@ impl Record {
                 &l.total.to_be_bytes(),
                 &[l.begun as u8],
                 &l.last,
+                &[l.heartbeats as u8],
             ]
             .concat(),
             Record::Hold(name, h) => [&[4, *name, h.kept() as u8], &h.sum()[..]].concat(),
@@ -132,6 +140,7 @@ impl Record {
                     Call::Seal(_) => (format!("seal {answer}"), out),
                     Call::Keep(_) => (format!("keep {answer}"), String::new()),
                     Call::Name(_) => (format!("name {answer}"), out),
+                    Call::Carry => (format!("carry {answer}"), String::new()),
                 }
             }
         };
@@ -145,13 +154,14 @@ fn fields(ledger: &Ledger) -> String {
         key,
         console,
         total,
+        heartbeats,
         begun,
         last,
         headings,
     } = ledger;
     let (key, last) = (to_hex(key), to_hex(last));
-    let begun = *begun as u8;
+    let [heartbeats, begun] = [heartbeats, begun].map(|&flag| flag as u8);
     let headings: Vec<String> = headings.iter().map(Heading::word).collect();
     let headings = headings.join(" ");
-    format!("{set} {key} {console} {total} {begun} {last} {headings}")
+    format!("{set} {key} {console} {total} {heartbeats} {begun} {last} {headings}")
 }

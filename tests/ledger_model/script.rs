@@ -1,11 +1,14 @@
-//! The script of the gate. The answers and the totals in it are those of document 01, F-2 and F-3, by hand; the model
-//! must agree.
+//! The script of the gate. The answers and the totals in it are those of document 01, F-2, F-3 and F-4, by hand; the
+//! model must agree.
 
 use super::numbers::{nonce_on, MOST_LOW};
+use super::script_borders::borders;
+use super::script_carryings::carryings;
 use super::script_consoles::consoles;
 use super::script_headings::headings;
+use super::script_heartbeats::heartbeats;
 use super::script_keepings::keepings;
-use super::script_names::names;
+use super::script_order::order;
 use super::script_sums::sums;
 use super::steps::{Script, KEYS_AND_TAGS};
 
@@ -15,15 +18,18 @@ pub fn script() -> Script {
     every_set(&mut s);
     refusals(&mut s);
     nonces(&mut s);
-    whole_capacity(&mut s);
-    hand_made(&mut s);
+    s.on_both(whole_capacity);
+    s.on_both(hand_made);
     unused_key_bytes(&mut s);
     consoles(&mut s);
     lent(&mut s);
     headings(&mut s);
     keepings(&mut s);
-    names(&mut s);
+    order(&mut s);
     sums(&mut s);
+    heartbeats(&mut s);
+    carryings(&mut s);
+    borders(&mut s);
     s
 }
 
@@ -80,6 +86,8 @@ fn refusals(s: &mut Script) {
     s.seal((9, 65536), 500, [0, 1, 9]);
     s.seal((10, 65536), 501, [0, 1, 9]);
     s.seal((10, 65536), MOST_LOW, [1, 0, 8]);
+    s.seal((10, 65536), 501, [0, 0, 8]); // an empty one is charged a block
+    s.put(3, 65535, Some(500));
     s.seal((0, 65536), 501, [0, 0, 8]);
 }
 
@@ -88,22 +96,22 @@ fn refusals(s: &mut Script) {
 fn nonces(s: &mut Script) {
     let none = [0, 0, 4];
     s.make(0, 2, 16);
-    s.seal((0, 0), 1 << 72, none);
-    s.seal((9, 0), (1 << 72) - 1, none); // 00ff..ff
-    s.seal((9, 0), 0xff, none);
-    s.seal((0, 0), (1 << 72) + 1, none);
-    s.seal((9, 0), 1 << 72, none);
-    s.seal((0, 0), (1 << 72) + 0x100, none); // the last byte falls, the one before rises
-    s.seal((9, 0), (1 << 72) + 0xff, none);
-    s.seal((0, 0), (1 << 72) + (1 << 64), none); // only the bytes before the last eight rise
-    s.seal((9, 0), (1 << 72) + (1 << 64) - 1, none);
-    s.seal((0, 0), 2 << 72, none); // the first of the ten rises, the others fall
-    s.seal((0, 0), 0x80 << 72, none); // no sign
-    s.seal((9, 0), 0x7f << 72, none);
-    s.seal((0, 0), MOST_LOW - 1, none);
-    s.seal((0, 0), MOST_LOW, none);
-    s.seal((9, 0), MOST_LOW, none); // no nonce of this console is above it
-    s.seal((9, 0), 0, none);
+    s.seal((0, 1), 1 << 72, none);
+    s.seal((9, 1), (1 << 72) - 1, none); // 00ff..ff
+    s.seal((9, 1), 0xff, none);
+    s.seal((0, 2), (1 << 72) + 1, none);
+    s.seal((9, 2), 1 << 72, none);
+    s.seal((0, 3), (1 << 72) + 0x100, none); // the last byte falls, the one before rises
+    s.seal((9, 3), (1 << 72) + 0xff, none);
+    s.seal((0, 4), (1 << 72) + (1 << 64), none); // only the bytes before the last eight rise
+    s.seal((9, 4), (1 << 72) + (1 << 64) - 1, none);
+    s.seal((0, 5), 2 << 72, none); // the first of the ten rises, the others fall
+    s.seal((0, 6), 0x80 << 72, none); // no sign
+    s.seal((9, 6), 0x7f << 72, none);
+    s.seal((0, 7), MOST_LOW - 1, none);
+    s.seal((0, 8), MOST_LOW, none);
+    s.seal((9, 8), MOST_LOW, none); // no nonce of this console is above it
+    s.seal((9, 8), 0, none);
     first_two_bytes(s);
 }
 
@@ -127,26 +135,30 @@ fn first_two_bytes(s: &mut Script) {
         s.seal((9, 7), 0, none);
         s.console = high;
         s.put_last(2, 7, Some(nonce_on(low, MOST_LOW)));
-        s.seal((0, 7), 0, none); // the ten bytes after are below
-        s.seal((9, 7), 0, none);
+        s.seal((0, 8), 0, none); // the ten bytes after are below
+        s.seal((9, 8), 0, none);
     }
     s.console = console;
 }
 
-/// On set 1, 16 messages of 65,536 bytes make 65,536 blocks, the capacity.
+/// On set 1, 16 messages of 65,536 bytes make 65,536 blocks, the capacity. An older ledger then takes an empty one,
+/// until it is carried over.
 fn whole_capacity(s: &mut Script) {
-    s.make(0, 1, 16);
+    let empty = s.when_full();
+    s.fresh(1);
     for i in 1..=15 {
         s.seal((0, 4096 * i), i as u128, [0, 65536, 65540]);
     }
     s.seal((10, 61440), 50, [1, 65536, 65540]);
     s.seal((0, 65536), 16, [0, 65536, 65540]);
-    s.seal((0, 65536), 17, [0, 0, 4]); // a charge of 0
+    s.seal((empty, 65536), 17, [0, 0, 4]);
     s.seal((10, 65536), 60, [1, 0, 4]);
     s.seal((10, 65536), 61, [0, 1, 5]);
     s.seal((10, 65536), 62, [4096, 65536, 65540]);
-    s.seal((9, 65536), 17, [0, 1, 5]);
-    s.seal((0, 65536), 18, [0, 0, 4]);
+    s.seal((9, 65536), 16, [0, 1, 5]);
+    s.seal((empty, 65536), 18, [0, 0, 4]);
+    s.carry(0);
+    s.seal((10, 65536), 19, [0, 0, 4]);
 }
 
 /// Values that no list of sealings leads to.
@@ -169,7 +181,7 @@ fn hand_made(s: &mut Script) {
             s.seal((10, most + over), 2, [0, 0, out]);
         }
         s.put(set, most, Some(1));
-        s.seal((0, most), 2, [0, 0, out]);
+        s.seal((s.when_full(), most), 2, [0, 0, out]);
         s.seal((10, most), 3, [0, 1, out]);
         s.put(set, most - 1, Some(1));
         s.seal((10, most - 1), 2, [1, 1, out]);
@@ -202,7 +214,7 @@ fn lent(s: &mut Script) {
     s.console = 65534;
     every_set(s);
     refusals(s);
-    hand_made(s);
+    s.on_both(hand_made);
     consoles(s);
     s.lent = &[false, true, true];
     refusals(s);

@@ -64,19 +64,19 @@ fn starts(s: &mut Script) {
     }
     s.seal_bytes((12, 1), at_end(!console), NONE);
     s.seal((0, 2), 6, [0, 1, 9]);
-    s.seal_bytes((0, 2), at_end(console), NONE);
+    s.seal_bytes((0, 3), at_end(console), NONE);
 }
 
 /// A fresh ledger takes the least and the greatest nonce that begins with its number.
 fn fresh(s: &mut Script) {
     s.make(0, 3, 16);
-    s.seal((0, 0), 0, NONE);
-    s.seal((0, 0), MOST_LOW, NONE);
+    s.seal((0, 1), 0, NONE);
+    s.seal((0, 2), MOST_LOW, NONE);
     s.make(0, 3, 16);
-    s.seal((0, 0), MOST_LOW, NONE);
-    s.seal((9, 0), MOST_LOW, NONE);
+    s.seal((0, 1), MOST_LOW, NONE);
+    s.seal((9, 1), MOST_LOW, NONE);
     s.put(3, 0, None);
-    s.seal((0, 0), 0, NONE);
+    s.seal((0, 1), 0, NONE);
 }
 
 /// 3 before 12: nonces that begin with the number, with another, or have no two bytes.
@@ -108,7 +108,7 @@ fn before_12(s: &mut Script) {
         }
     }
     s.seal_on(wrong, (12, 5), 501, NONE);
-    s.seal_on(right, (0, 5), 501, NONE);
+    s.seal_on(right, (0, 6), 501, NONE);
 }
 
 /// 4, 5 and 7 come after 12.
@@ -140,6 +140,7 @@ fn stale_and_spent(s: &mut Script) {
     s.seal_on(higher, (12, 65536), 501, [0, 1, 9]); // 12 and 10
     s.seal_on(right, (9, 65536), 500, [0, 1, 9]);
     s.seal_on(lower, (12, 65536), 500, [0, 1, 9]); // 12, 9 and 10
+    s.put(3, 65535, Some(500));
     s.seal_on(right, (0, 65536), 501, NONE);
 }
 
@@ -157,7 +158,8 @@ fn all_together(s: &mut Script) {
     s.seal_on(right, (7, 65536), 500, [16, 32, 0]);
     s.seal_on(right, (9, 65536), 500, [16, 32, 40]);
     s.seal_on(right, (10, 65536), 501, [16, 32, 40]);
-    s.seal_on(right, (0, 65536), 501, NONE);
+    s.put(3, 65533, Some(500));
+    s.seal_on(right, (0, 65536), 501, [16, 32, 40]);
 }
 
 /// The last nonce begins with another number. The ledger's own is asked for, not that one.
@@ -167,10 +169,10 @@ fn other_last(s: &mut Script) {
         s.put_last(3, 5, Some(nonce_on(other, 500)));
         s.seal_on(other, (12, 5), 501, NONE); // above the last
         s.seal_on(other, (12, 5), 500, NONE); // and not
-        let answer = if own > other { 0 } else { 9 };
-        s.seal((answer, 5), 0, NONE);
-        s.seal((answer, 5), 501, NONE);
-        s.seal_on(other, (12, 5), 502, NONE);
+        let (answer, one) = if own > other { (0, 1) } else { (9, 0) };
+        s.seal((answer, 5 + one), 0, NONE);
+        s.seal((answer, 5 + 2 * one), 501, NONE);
+        s.seal_on(other, (12, 5 + 2 * one), 502, NONE);
     }
     s.console = 258;
 }

@@ -15,7 +15,7 @@ pub fn headings(s: &mut Script) {
     refused_replacements(s);
     in_turn(s);
     all_eight(s);
-    empty_data(s);
+    s.on_both(empty_data);
 }
 
 /// 17 bytes of data are two blocks, and so are 17 bytes of message; sealing charges for the message alone.
@@ -35,25 +35,26 @@ fn every_set(s: &mut Script) {
 /// Data of each length, sealed with a message of each form, by name and then in ordinary sealings: the outputs are the
 /// same.
 fn lengths(s: &mut Script) {
-    let texts = [(0, 0), (17, 2), (32, 4)]; // and their blocks, added up
+    // Each with its charge by name, added up.
+    let texts = [(0, 1), (17, 3), (32, 5)];
+    // Each with the charge of a keeping, and the charges of ordinary sealings of these messages, added up.
     let data = [
-        (0, 0),
-        (1, 1),
-        (15, 1),
-        (16, 1),
-        (17, 2),
-        (4095, 256),
-        (4096, 256),
+        (0, 1, [1, 3, 5]),
+        (1, 1, [1, 4, 7]),
+        (15, 1, [1, 4, 7]),
+        (16, 1, [1, 4, 7]),
+        (17, 2, [2, 6, 10]),
+        (4095, 256, [256, 514, 772]),
+        (4096, 256, [256, 514, 772]),
     ];
-    for (data, blocks) in data {
+    for (data, kept, totals) in data {
         s.make(0, 3, 16);
-        s.keep((0, blocks), 5, data);
+        s.keep((0, kept), 5, data);
         for (i, (text, sum)) in (1..).zip(texts) {
-            s.name((0, blocks + sum), 5, i, [text, text + 8]);
+            s.name((0, kept + sum), 5, i, [text, text + 8]);
         }
         s.make(0, 3, 16);
-        for (i, (text, sum)) in (1..).zip(texts) {
-            let total = blocks * i as u64 + sum;
+        for (i, ((text, _), total)) in (1..).zip(texts.into_iter().zip(totals)) {
             s.seal((0, total), i, [data, text, text + 8]);
         }
         for before in 0..3 {
@@ -154,17 +155,18 @@ fn all_eight(s: &mut Script) {
     }
 }
 
-/// Empty data are kept, for which nothing is charged. Before, there is nothing.
+/// Empty data are kept. Before, there is nothing.
 fn empty_data(s: &mut Script) {
-    s.make(0, 3, 16);
+    let empty = s.empty();
+    s.fresh(3);
     s.name((13, 0), 4, 0, [0, 8]);
-    s.keep((0, 0), 4, 0);
-    s.name((13, 0), 3, 0, [0, 8]);
-    s.name((13, 0), 5, 0, [0, 8]);
-    s.name((0, 0), 4, 0, [0, 8]);
-    s.name((0, 1), 4, 1, [16, 24]);
-    s.keep((0, 2), 4, 16);
-    s.name((0, 2), 4, 2, [0, 8]);
-    s.keep((0, 2), 4, 0);
-    s.name((0, 2), 4, 3, [0, 8]);
+    s.keep((0, empty), 4, 0);
+    s.name((13, empty), 3, 0, [0, 8]);
+    s.name((13, empty), 5, 0, [0, 8]);
+    s.name((0, 2 * empty), 4, 0, [0, 8]);
+    s.name((0, 1 + 2 * empty), 4, 1, [16, 24]);
+    s.keep((0, 2 + 2 * empty), 4, 16);
+    s.name((0, 2 + 3 * empty), 4, 2, [0, 8]);
+    s.keep((0, 2 + 4 * empty), 4, 0);
+    s.name((0, 2 + 5 * empty), 4, 3, [0, 8]);
 }

@@ -19,24 +19,25 @@ pub fn keepings(s: &mut Script) {
 fn nonces(s: &mut Script) {
     s.make(0, 3, 16);
     s.keep((0, 1), 0, 1);
-    s.name((0, 1), 0, 0, [0, 8]); // the least
+    s.name((0, 2), 0, 0, [0, 8]); // the least
     s.make(0, 3, 16);
     s.keep((0, 1), 0, 1);
-    s.seal((0, 1), 0, [0, 0, 8]);
-    s.keep((0, 2), 0, 1);
-    s.name((9, 2), 0, 0, [0, 8]);
-    s.seal((9, 2), 0, [0, 0, 8]);
-    s.name((0, 2), 0, 5, [0, 8]);
-    s.seal((9, 2), 5, [0, 0, 8]);
-    s.seal((0, 2), 6, [0, 0, 8]);
-    s.name((9, 2), 0, 6, [0, 8]);
-    s.name((9, 2), 0, 5, [0, 8]);
-    s.name((0, 2), 0, MOST_LOW, [0, 8]);
-    s.keep((0, 3), 0, 1); // no nonce is left, and it needs none
-    s.name((9, 3), 0, MOST_LOW, [0, 8]);
+    s.seal((0, 2), 0, [0, 0, 8]);
+    s.keep((0, 3), 0, 1);
+    s.name((9, 3), 0, 0, [0, 8]);
+    s.seal((9, 3), 0, [0, 0, 8]);
+    s.name((0, 4), 0, 5, [0, 8]);
+    s.seal((9, 4), 5, [0, 0, 8]);
+    s.seal((0, 5), 6, [0, 0, 8]);
+    s.name((9, 5), 0, 6, [0, 8]);
+    s.name((9, 5), 0, 5, [0, 8]);
+    s.name((0, 6), 0, MOST_LOW, [0, 8]);
+    s.keep((0, 7), 0, 1); // no nonce is left, and it needs none
+    s.name((9, 7), 0, MOST_LOW, [0, 8]);
 }
 
-/// On set 1, 256 keepings of 256 blocks make 65,536, the capacity.
+/// On set 1, 256 keepings of 256 blocks make 65,536, the capacity. An older ledger then takes empty calls, until it is
+/// carried over.
 fn whole_capacity(s: &mut Script) {
     s.make(0, 1, 16);
     for i in 1..=256 {
@@ -44,12 +45,21 @@ fn whole_capacity(s: &mut Script) {
     }
     s.keep((10, 65536), 7, 1);
     s.keep((10, 65536), 0, 4096);
-    s.keep((0, 65536), 0, 0); // a charge of 0
     s.name((10, 65536), 7, 1, [1, 5]);
-    s.name((0, 65536), 7, 1, [0, 4]);
-    s.name((0, 65536), 0, 2, [0, 4]);
-    s.seal((10, 65536), 3, [1, 0, 4]);
-    s.seal((0, 65536), 3, [0, 0, 4]);
+    s.seal((10, 65536), 1, [1, 0, 4]);
+    empty_calls(s, 10, 1);
+    s.put_back(s.ledger.clone().older());
+    empty_calls(s, 0, 1);
+    s.name((0, 65536), 0, 3, [0, 4]);
+    s.carry(0);
+    empty_calls(s, 10, 4);
+}
+
+/// A keeping under another name, and both kinds of sealing with nonces from this on.
+fn empty_calls(s: &mut Script, answer: u32, low: u128) {
+    s.keep((answer, 65536), 0, 0);
+    s.name((answer, 65536), 7, low, [0, 4]);
+    s.seal((answer, 65536), low + 1, [0, 0, 4]);
 }
 
 /// Ordinary sealings, by value and lent, charge for their data and leave what is kept.

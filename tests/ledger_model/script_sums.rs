@@ -12,7 +12,7 @@ pub fn sums(s: &mut Script) {
     held_again(s);
     unused_key_bytes(s);
     no_sets(s);
-    totals(s);
+    s.on_both(totals);
 }
 
 /// Sixteen bytes that are all different.
@@ -53,8 +53,8 @@ fn cut(s: &mut Script, set: u32, t: usize) {
     s.put(set, 0, None);
     s.seal((0, 2), 1, [0, 17, 17 + t]);
     s.put(set, 0, None);
-    s.keep((0, 0), 7, 0);
-    s.name((0, 2), 7, 1, lengths);
+    s.keep((0, 1), 7, 0);
+    s.name((0, 3), 7, 1, lengths);
     assert_eq!(s.output(0), s.output(3), "another sealing");
     let empty = s.output(0).to_string();
     for (sum, same) in [([0; 16], true), (after, true), (in_last, false)] {
@@ -115,6 +115,7 @@ fn no_sets(s: &mut Script) {
 
 /// At the capacity, above it and at 2^64, where the sum for "spent" does not wrap.
 fn totals(s: &mut Script) {
+    let empty = s.when_full();
     for (set, b) in [(1, 16), (2, 32), (5, 48)] {
         let most = 1 << b;
         for total in [u64::MAX, most + 1, most + (1 << 63)] {
@@ -126,10 +127,11 @@ fn totals(s: &mut Script) {
             }
         }
         s.put(set, most, Some(1));
+        s.hold(3, true, sum(9));
         s.keep((10, most), 3, 1);
-        s.keep((0, most), 3, 0);
+        s.keep((empty, most), 3, 0);
         s.name((10, most), 3, 2, [1, 13]);
-        s.name((0, most), 3, 2, [0, 12]);
+        s.name((empty, most), 3, 2, [0, 12]);
         s.put(set, most - 2, Some(1));
         s.keep((10, most - 2), 3, 33);
         s.keep((0, most - 1), 3, 16);
@@ -141,6 +143,6 @@ fn totals(s: &mut Script) {
         s.keep((0, most - 1), 3, 4096);
         s.keep((10, most - 1), 3, 4096);
         s.keep((0, most), 3, 1);
-        s.keep((0, most), 3, 0);
+        s.keep((empty, most), 3, 0);
     }
 }

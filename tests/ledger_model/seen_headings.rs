@@ -1,11 +1,12 @@
 //! What the random lists tried with kept headings.
 
 use super::headings::{Heading, NAMES, NOTHING};
-use super::model::{filled, Call, Keeping, Ledger};
+use super::model::Ledger;
+use super::model_calls::{filled, Call, Keeping};
 use super::records::Record;
 use std::collections::BTreeMap;
 
-const MANY: usize = 20;
+const MANY: usize = 10;
 
 #[derive(Default)]
 pub struct Headings {
@@ -22,21 +23,16 @@ pub struct Headings {
 }
 
 impl Headings {
-    /// A record, on the ledger as it stands before.
-    pub fn record(&mut self, ledger: &Ledger, record: &Record) {
+    /// A record, on the ledger as it stands before, and the answer.
+    pub fn record(&mut self, ledger: &Ledger, record: &Record, answer: u32) {
         match record {
             Record::Make(..) | Record::Put(_) => self.refused.clear(),
             Record::Hold(name, ..) => {
                 self.refused.remove(&(*name as u32));
             }
-            Record::Call(call) => {
-                let answer = ledger.refusals(call).first().copied().unwrap_or(0);
-                match call {
-                    Call::Seal(_) => {}
-                    Call::Keep(c) => self.keeping(ledger, c, answer),
-                    Call::Name(c) => self.sealing(ledger, c.name, answer),
-                }
-            }
+            Record::Call(Call::Keep(c)) => self.keeping(ledger, c, answer),
+            Record::Call(Call::Name(c)) => self.sealing(ledger, c.name, answer),
+            Record::Call(Call::Seal(_) | Call::Carry) => {}
         }
     }
 

@@ -1,9 +1,10 @@
-//! The steps of the script, each held to an answer, a console, a total and what is kept.
+//! The steps of the script, each held to an answer and a total, and to what it may change in the ledger.
 
 use super::headings::{Heading, Sum, NAMES, NOTHING};
-use super::model::{filled, ByName, Call, Keeping, Ledger, Sealing, NO_LEDGER};
+use super::model::{Ledger, NO_LEDGER};
+use super::model_calls::{filled, ByName, Call, Keeping, Sealing};
 use super::numbers::{nonce, nonce_on, MOST_NONCE};
-use super::records::{by_hand, Record};
+use super::records::{answer, by_hand, Record};
 
 /// The lengths of key and tag of each set, from set 1 on.
 pub const KEYS_AND_TAGS: [(usize, usize); 10] = [
@@ -24,6 +25,7 @@ pub struct Script {
     pub lines: Vec<String>,
     pub ledger: Ledger,
     pub console: u16, // of the makings and hand-made ledgers, and what nonces begin with
+    pub heartbeats: bool, // of fresh and hand-made ledgers
     pub lent: &'static [bool], // whether a sealing's ledger is lent, in turn
 }
 
@@ -39,6 +41,7 @@ impl Script {
             lines: vec![],
             ledger: NO_LEDGER,
             console: 0,
+            heartbeats: true,
             lent: &[false],
         }
     }
@@ -48,21 +51,54 @@ impl Script {
         self.records.push(record);
     }
 
-    fn says(&self, answer: u32, console: u16, total: u64) {
+    fn says(&self, expected: u32) {
         let line = self.lines.last().expect("a line");
-        let found = line.split(' ').nth(1).expect("an answer");
         let step = self.lines.len();
-        assert_eq!(found, answer.to_string(), "step {step}: another answer");
-        assert_eq!(self.ledger.total, total, "step {step}: another total");
-        assert_eq!(self.ledger.console, console, "step {step}: another console");
+        let expected = expected.to_string();
+        assert_eq!(answer(line), expected, "step {step}: another answer");
     }
 
-    /// A making with the key's first bytes, 00 after the 32. A refused one leaves console 0. Nothing is kept.
+    /// Steps on older ledgers.
+    pub fn on_older(&mut self, steps: impl Fn(&mut Script)) {
+        self.heartbeats = false;
+        steps(self);
+        self.heartbeats = true;
+    }
+
+    /// The same steps on newer ones as well.
+    pub fn on_both(&mut self, steps: impl Fn(&mut Script)) {
+        self.on_older(&steps);
+        steps(self);
+    }
+
+    /// What an empty call is charged.
+    pub fn empty(&self) -> u64 {
+        self.heartbeats as u64
+    }
+
+    /// The answer to an empty call on a full ledger.
+    pub fn when_full(&self) -> u32 {
+        [0, 10][self.heartbeats as usize]
+    }
+
+    /// A making with the key's first bytes, 00 after the 32. A refused one leaves console 0 and the older charge.
     pub fn make(&mut self, answer: u32, set: u32, length: usize) {
         let key: Vec<u8> = key().into_iter().chain([0; 32]).take(length).collect();
         self.add(Record::Make(set, self.console, key));
-        self.says(answer, if answer == 0 { self.console } else { 0 }, 0);
-        assert_eq!(self.ledger.headings, [NOTHING; NAMES], "something kept");
+        self.says(answer);
+        let made = &self.ledger;
+        let console = if answer == 0 { self.console } else { 0 };
+        assert_eq!((made.console, made.total), (console, 0), "another ledger");
+        assert_eq!(made.heartbeats, answer == 0, "another charge");
+        assert_eq!(made.headings, [NOTHING; NAMES], "something kept");
+    }
+
+    /// A made ledger, or one like it with the older charge.
+    pub fn fresh(&mut self, set: u32) {
+        self.make(0, set, KEYS_AND_TAGS[set as usize - 1].0);
+        if !self.heartbeats {
+            self.put_back(self.ledger.clone().older());
+        }
     }
 
     /// The last nonce begins with the console number.
@@ -78,6 +114,7 @@ impl Script {
             key: key(),
             console: self.console,
             total,
+            heartbeats: self.heartbeats,
             begun,
             last: last.try_into().expect("12 bytes"),
             headings: [NOTHING; NAMES],
@@ -96,25 +133,29 @@ impl Script {
         self.add(Record::Hold(name, Heading::Hand(kept, sum)));
     }
 
-    /// A call that must give the answer and leave the total. It leaves the console, and all that is kept but for an
-    /// accepted keeping, which leaves the last nonce.
+    /// A call that must give the answer and leave the total. Accepted, a sealing changes the last nonce as well, a
+    /// keeping what is under its name, and a carrying the charge; nothing else changes.
     fn call(&mut self, (answer, total): (u32, u64), call: Call) {
-        let before = self.ledger.clone();
+        let mut next = self.ledger.clone();
+        next.total = total;
         self.add(Record::Call(call.clone()));
-        self.says(answer, before.console, total);
-        let mut headings = before.headings;
-        if let Call::Keep(c) = call {
-            if answer == 0 {
-                let after = &self.ledger.headings[c.name as usize];
-                let new =
-                    matches!(after, Heading::Data(data, _) if *data == filled(c.data, c.seed));
-                assert!(new, "other data kept");
-                headings[c.name as usize] = after.clone();
+        self.says(answer);
+        match call {
+            _ if answer != 0 => {}
+            Call::Seal(Sealing { nonce, .. }) | Call::Name(ByName { nonce, .. }) => {
+                next.begun = true;
+                next.last = nonce.try_into().expect("12 bytes");
             }
-            let last = (before.begun, before.last);
-            assert_eq!((self.ledger.begun, self.ledger.last), last, "another nonce");
+            Call::Keep(c) => {
+                let new = &self.ledger.headings[c.name as usize];
+                let data = filled(c.data, c.seed);
+                assert!(matches!(new, Heading::Data(kept, _) if *kept == data));
+                next.headings[c.name as usize] = new.clone();
+            }
+            Call::Carry => next.heartbeats = true,
         }
-        assert_eq!(self.ledger.headings, headings, "other headings");
+        let step = self.lines.len();
+        assert_eq!(self.ledger, next, "step {step}: another ledger");
     }
 
     pub fn seal_bytes(&mut self, expected: (u32, u64), nonce: Vec<u8>, lengths: [usize; 3]) {
@@ -173,10 +214,14 @@ impl Script {
         self.call(expected, Call::Name(by_name));
     }
 
+    pub fn carry(&mut self, answer: u32) {
+        self.call((answer, self.ledger.total), Call::Carry);
+    }
+
     /// The output of the step so many steps before the last, which is a sealing.
     pub fn output(&self, before: usize) -> &str {
         let line = &self.lines[self.lines.len() - 1 - before];
-        let fields = line.splitn(17, ' ');
+        let fields = line.splitn(18, ' ');
         fields.last().expect("an output")
     }
 }

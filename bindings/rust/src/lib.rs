@@ -19,7 +19,7 @@
 //!   nonce learns where blocks of 16 bytes of their messages are the same and the exclusive or of some others of their
 //!   bytes, and may be able to make a ciphertext that opens.
 //! * All sealings under one key use at most [`Set::blocks`] blocks. One uses ⌈data bytes / 16⌉ + ⌈message bytes /
-//!   16⌉. Nothing here counts them.
+//!   16⌉, and counts as one where that is 0. Nothing here counts them.
 //! * A call needs up to 96 KiB of stack: 16 KiB, and 20 bytes for each byte of data. This is measured, not proved, and
 //!   a call does not notice that its stack is too small.
 //!

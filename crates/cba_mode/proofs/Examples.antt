@@ -9,11 +9,11 @@ use Rattle.cba_mode.specs.Sets.{column}
 use Rattle.cba_mode.specs.Offsets
 use Rattle.cba_mode.specs.Offsets.{doubled, times, F, start, pad}
 use Rattle.cba_mode.specs.Forms.{sealForm}
-use Rattle.cba_mode.specs.Charge.{charge}
+use Rattle.cba_mode.specs.Charge.{oldCharge, charge}
 use Rattle.cba_mode.specs.Examples.{Examples}
 
 pub examples : Examples
-unfolding xors number digits xtime mulBits mul squares inverse bitsOf affine sBox column doubled Offsets.two Offsets.three Offsets.four Offsets.five Offsets.six times F start pad sealForm charge
+unfolding xors number digits xtime mulBits mul squares inverse bitsOf affine sBox column doubled Offsets.two Offsets.three Offsets.four Offsets.five Offsets.six times F start pad sealForm oldCharge charge
 examples =
     record {
       one = refl;
@@ -27,5 +27,6 @@ examples =
       nine = (refl, refl, refl, refl);
       ten = (refl, refl);
       eleven = (refl, refl);
+      eleven-older = (refl, refl);
       ells = refl;
     }

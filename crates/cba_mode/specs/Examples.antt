@@ -1,4 +1,5 @@
--- The eleven fixed examples of document 01, about the definitions, and the ten values of ℓ.
+-- The eleven fixed examples of document 01, about the definitions, the eleventh as request F-4 of document 02 has it and as it was, and
+-- the ten values of ℓ.
 -- Assumes nothing.
 use mathlib.Core.Path.{_≡_}
 use mathlib.Core.List.{List, [], _∷_, _++_, map}
@@ -10,7 +11,7 @@ use Rattle.cba_mode.specs.Sets.{tagBits, capacity, tagBytes, ell}
 use Rattle.cba_mode.specs.Offsets.{two, four, five, six, start, pad}
 use Rattle.cba_mode.specs.Forms.{Form, sealForm}
 use Rattle.cba_mode.specs.Forms.Form.{short, joined, separate}
-use Rattle.cba_mode.specs.Charge.{charge}
+use Rattle.cba_mode.specs.Charge.{oldCharge, charge}
 
 -- a 64-bit half
 abbrev pub half : ℕ → List ℕ
@@ -31,6 +32,7 @@ pub record Examples : Type 0 where
   pub eight : start (replicate 16 0) 32 ≡ half 0xffff00000000001b ++ half 0x000000000003fffe
   pub nine : (formIn 3 8 ≡ short) × (formIn 3 9 ≡ separate) × (formIn 3 32 ≡ joined) × (formIn 3 33 ≡ separate)
   pub ten : (formIn 5 0 ≡ short) × (formIn 5 1 ≡ separate)
-  pub eleven : (charge 1 17 ≡ 3) × (charge 0 0 ≡ 0)
+  pub eleven : (charge 1 17 ≡ 3) × (charge 0 0 ≡ 1)
+  pub eleven-older : (oldCharge 1 17 ≡ 3) × (oldCharge 0 0 ≡ 0)
   pub ells : map (λ set. ell (tagBits set) (capacity set)) (1 ∷ 2 ∷ 3 ∷ 4 ∷ 5 ∷ 6 ∷ 7 ∷ 8 ∷ 9 ∷ 10 ∷ [])
       ≡ 32 ∷ 32 ∷ 64 ∷ 32 ∷ 0 ∷ 64 ∷ 32 ∷ 0 ∷ 32 ∷ 0 ∷ []

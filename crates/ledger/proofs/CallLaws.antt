@@ -17,7 +17,6 @@ use Rattle.fips197.specs.Schedule.{isKey}
 use Rattle.fips197.specs.Cipher.{cipher}
 use Rattle.cba_mode.specs.Sets.{tagBits, capacity, tagBytes}
 use Rattle.cba_mode.specs.Seal.{sealWith}
-use Rattle.cba_mode.specs.Charge.{charge}
 use Rattle.cba_rules.specs.Checks.{setTag, badKey, badNonce, messageRows}
 use Rattle.cba_rules.specs.Refusals.{sealLeaves, SealCall}
 use Rattle.cba_rules.proofs.SetLaws.{set-fits, set-key, key-most}
@@ -27,9 +26,9 @@ use Rattle.cba_steps.specs.declared.parameters.Parameters.{Parameters}
 use Rattle.plain.specs.declared.sets.Set.the-variants.{Known, Unknown}
 use Rattle.plain.specs.Lookup.{lookupOf}
 use Rattle.plain.proofs.SetLaws.{is-known, is-unknown, its-values, its-key, its-tag}
-use Rattle.ledger_rules.specs.Ledger.{Ledger, noLedger, fresh, makeRows, makeAnswer, madeLedger, keyOf, consoleOf, badConsole, nonceRows, stale, spent, ownRows, headingAt, Source, sourceRow, sealCharge, ledgerChecks, ledgerRows, ledgerAnswer, charged, ledgerSealing, ledgerOutput, LedgerCall}
+use Rattle.ledger_rules.specs.Ledger.{Ledger, noLedger, fresh, makeRows, makeAnswer, madeLedger, keyOf, consoleOf, badConsole, nonceRows, stale, chargeBy, spent, ownRows, headingAt, Source, sourceRow, sealCharge, ledgerChecks, ledgerRows, ledgerAnswer, charged, ledgerSealing, ledgerOutput, LedgerCall, carryRows, carryAnswer, withCharge, CarryCall}
 use Rattle.ledger_rules.specs.Ledger.Source.{given, named}
-use Rattle.ledger_rules.proofs.LedgerLaws.{make-accepted, made-none, made-fresh, own-checks, in-groups, ledger-known, ledger-accepted, ledger-refused, ledger-done, given-plain}
+use Rattle.ledger_rules.proofs.LedgerLaws.{make-accepted, made-none, made-fresh, own-checks, in-groups, ledger-known, ledger-accepted, ledger-refused, ledger-done, given-plain, carried-refused, carried-accepted}
 
 -- ---- making
 
@@ -38,7 +37,7 @@ module _ (set : ℕ) (key : List ℕ) (console : ℕ) (l : Ledger) where
   pub refused-making : (r : ℕ) → r ≡ makeAnswer set key → (r ≡ 0 → ⊥) → l ≡ noLedger → (r ≡ makeAnswer set key) × (l ≡ madeLedger set key console)
   refused-making r e n f = (e, f ∙ sym (made-none set key console (λ z. n (e ∙ z))))
 
-  pub accepted-making : makeAnswer set key ≡ 0 → l ≡ fresh set key console → (0 ≡ makeAnswer set key) × (l ≡ madeLedger set key console)
+  pub accepted-making : makeAnswer set key ≡ 0 → l ≡ fresh true set key console → (0 ≡ makeAnswer set key) × (l ≡ madeLedger set key console)
   accepted-making e f = (sym e, f ∙ sym (made-fresh set key console e))
 
 pub make-unknown : (set : ℕ) (key : List ℕ) → lookupOf set ≡ Unknown → 1 ≡ makeAnswer set key
@@ -89,7 +88,7 @@ module _ (l : Ledger) (p : Parameters) (known : lookupOf (l .set) ≡ Known p) (
       is-length (length N) 12 (passed (nonceRows (l .console) N) refl (neither (answer (nonceRows (l .console) N)) source a .0) .0)
 
   -- with the ledger's own they are the answer, from whatever source the data come
-  pub from-source : (S : Source) (c : ℕ) → source ≡ answer (sourceRow l S ∷ []) → c ≡ sealCharge S message →
+  pub from-source : (S : Source) (c : ℕ) → source ≡ answer (sourceRow l S ∷ []) → c ≡ sealCharge (l .heartbeats) S message →
       firstOf groups (answer (ownRows (stale l N) (spent l c))) ≡ ledgerAnswer l N S message room
   from-source S c e f =
       let t = setTag (l .set) in
@@ -98,7 +97,7 @@ module _ (l : Ledger) (p : Parameters) (known : lookupOf (l .set) ≡ Known p) (
       ap₂ (λ (x y : ℕ). firstOf (firstOf (answer (nonceRows (l .console) N)) x) (answer (messageRows y message room))) e (its-tag (l .set) p known)
       ∙ sym (in-groups l t (l .console) N message room S) in
       ap₂ (λ (x c : ℕ). firstOf x (answer (own c))) its-checks f
-      ∙ sym (two-parts (ledgerChecks t (l .console) N (sourceRow l S) message room) (own (sealCharge S message)) (own-checks l t (l .console) N message room S))
+      ∙ sym (two-parts (ledgerChecks t (l .console) N (sourceRow l S) message room) (own (sealCharge (l .heartbeats) S message)) (own-checks l t (l .console) N message room S))
       ∙ sym (ledger-known l N S message room (is-known (l .set) p known))
 
 pub unknown-refused : (l : Ledger) (N : List ℕ) (S : Source) (M out : List ℕ) → lookupOf (l .set) ≡ Unknown → LedgerCall l N S M out 1 l out
@@ -121,7 +120,7 @@ module _ (l : Ledger) (p : Parameters) (n : ℕ) (known : lookupOf (l .set) ≡ 
 
   -- what plain sealing left is the ledger's output
   pub accepted-call : (N A M out : List ℕ) (a : ℕ) (l′ : Ledger) (out′ : List ℕ) → n ≤ length (l .key) → ledgerAnswer l N (given A) (length M) (length out) ≡ 0 →
-      SealCall (l .set) (take n (l .key)) N A M out a out′ → l′ ≡ charged l N (charge (length A) (length M)) → LedgerCall l N (given A) M out a l′ out′
+      SealCall (l .set) (take n (l .key)) N A M out a out′ → l′ ≡ charged l N (chargeBy (l .heartbeats) (length A) (length M)) → LedgerCall l N (given A) M out a l′ out′
   unfolding sealCharge
   accepted-call N A M out a l′ out′ m z call f =
       let call′ = subst (λ (i : List ℕ). SealCall (l .set) i N A M out a out′) part-is call in
@@ -130,7 +129,7 @@ module _ (l : Ledger) (p : Parameters) (n : ℕ) (known : lookupOf (l .set) ≡ 
 
   -- and so is ENC with the sum that is kept
   pub named-call : (N : List ℕ) (name : ℕ) (M out sum : List ℕ) (l′ : Ledger) (out′ : List ℕ) → ledgerAnswer l N (named name) (length M) (length out) ≡ 0 →
-      sum ≡ headingAt l name .sum → Enc (take n (l .key)) p N sum M out out′ → length out′ ≡ length out → l′ ≡ charged l N (charge 0 (length M)) →
+      sum ≡ headingAt l name .sum → Enc (take n (l .key)) p N sum M out out′ → length out′ ≡ length out → l′ ≡ charged l N (chargeBy (l .heartbeats) 0 (length M)) →
       LedgerCall l N (named name) M out 0 l′ out′
   unfolding sealCharge ledgerSealing ledgerOutput sealLeaves
   named-call N name M out sum l′ out′ z h w same f =
@@ -154,3 +153,18 @@ named-seals l p N name M out known z =
       given = record { fits = rw (v .1, v .2) (set-fits (l .set) (is-known (l .set) p known)); nonce = r .nonce-length };
       room = rw (v .1) (r .seals .room);
     }
+
+-- ---- carrying
+
+module _ (l : Ledger) where
+  pub carry-unknown : lookupOf (l .set) ≡ Unknown → CarryCall l 1 l
+  unfolding carryAnswer carryRows answer
+  carry-unknown h =
+      let e : 1 ≡ carryAnswer l = rw (is-unknown (l .set) h) refl in
+      record { answer-is = e; next-is = sym (carried-refused l (λ z. omega (arith, e, z))) }
+
+  pub carry-known : (p : Parameters) → lookupOf (l .set) ≡ Known p → CarryCall l 0 (withCharge true l)
+  unfolding carryAnswer carryRows answer
+  carry-known p h =
+      let e : 0 ≡ carryAnswer l = rw (is-known (l .set) p h) refl in
+      record { answer-is = e; next-is = sym (carried-accepted l (sym e)) }

@@ -4,9 +4,10 @@ use mathlib.Core.Path.{_≡_, refl, sym, ap, ap₂, _∙_}
 use mathlib.Core.Bool.{Bool, true, false, not}
 use mathlib.Core.List.{List}
 use mathlib.Core.Logic.{⊎-elim}
-use Prim.Native.Nat.{ℕ, _+_, _-_, _*_, _%_, _^_, _<_, _≤_}
+use Prim.Native.Nat.{ℕ, _+_, _-_, _*_, _/_, _%_, _^_, _<_, _≤_}
 use native.Mathlib.Nat.{mod-eq-of-lt, zero-add, one-mul, le-antisymm}
 use native.Mathlib.Omega.{arith}
+use mir.Val.{boolByte}
 use borrow.Author.Tests.{eq-eqb, ne-eqb, lt-ltb, le-ltb, le-leb, lt-leb, eqb-true, eqb-false}
 use lib.Dec.{eqb, ltb, leb}
 use lib.ListN.{length, take, getD}
@@ -17,7 +18,8 @@ use Rattle.octets.proofs.Numbers.{number-more}
 use Rattle.octets.proofs.Tests.{le-or-lt}
 use Rattle.answers.proofs.RowLaws.{not-false, not-true}
 use Rattle.cba_mode.specs.Sets.{capacity}
-use Rattle.ledger_rules.specs.Ledger.{Ledger, consoleOf, stale, spent}
+use Rattle.cba_mode.specs.Charge.{oldCharge, charge}
+use Rattle.ledger_rules.specs.Ledger.{Ledger, consoleOf, stale, chargeBy, spent}
 
 -- ---- the capacity
 
@@ -36,6 +38,18 @@ goes-in b total charge h k =
     (λ (p : charge ≤ 2 ^ b - total). rw (le-leb charge (2 ^ b - total) p, le-ltb (2 ^ b) (total + charge) (omega (arith, e))) refl)
     (λ (p : 2 ^ b - total < charge). rw (lt-leb charge (2 ^ b - total) p, lt-ltb (2 ^ b) (total + charge) (omega (arith, e))) refl)
     (le-or-lt charge (2 ^ b - total)))
+
+-- ---- the charge, by the blocks x of the data and y of the message
+
+pub some-blocks : {x y : ℕ} (b : Bool) (ad message : ℕ) → x ≡ (ad + 15) / 16 → y ≡ (message + 15) / 16 → (x + y ≡ 0 → ⊥) → x + y ≡ chargeBy b ad message
+unfolding chargeBy charge oldCharge
+some-blocks true ad message e f n = omega (arith, e, f, n)
+some-blocks false ad message e f n = omega (arith, e, f)
+
+pub no-blocks : {x y : ℕ} (b : Bool) (ad message : ℕ) → x ≡ (ad + 15) / 16 → y ≡ (message + 15) / 16 → x + y ≡ 0 → boolByte b ≡ chargeBy b ad message
+unfolding chargeBy charge oldCharge
+no-blocks true ad message e f z = omega (arith, e, f, z)
+no-blocks false ad message e f z = omega (arith, e, f, z)
 
 -- ---- nonces
 

@@ -3,7 +3,7 @@
 use mathlib.Core.Path.{_≡_, refl, sym, ap, ap₂, _∙_}
 use mathlib.Core.Bool.{Bool, true, false, not}
 use mathlib.Core.List.{List, [], _∷_, map}
-use Prim.Native.Nat.{ℕ, zero, suc, _+_, _/_, _<_, _≤_}
+use Prim.Native.Nat.{ℕ, zero, suc, _/_, _<_, _≤_}
 use native.Mathlib.Omega.{arith}
 use borrow.Author.Tests.{lt-ltb, le-ltb, ltb-true}
 use lib.ListN.{length, take, getD, set, List·getD-map}
@@ -19,7 +19,6 @@ use Rattle.plain.specs.Lookup.{lookupOf}
 use Rattle.plain.proofs.SetLaws.{is-known, is-unknown, its-values}
 use Rattle.ledger_rules.specs.Ledger.{Ledger, spent, noBlocks, headingAt, isName, isKept, badName, ledgerAnswer, keepCharge, keepRows, keepAnswer, sumOf, keeping, keptLedger, KeepCall}
 use Rattle.ledger_rules.specs.Ledger.Source.{named}
-use Rattle.ledger_rules.specs.Ledger as rules
 use Rattle.ledger_rules.proofs.LedgerLaws.{named-kept, kept-refused, kept-accepted}
 use Rattle.ledger.specs.declared.ledger.Heading.{Heading}
 use Rattle.ledger.specs.declared.ledger.Ledger as code
@@ -32,25 +31,10 @@ pub read : (l : code.Ledger) (name : ℕ) → headingOf (getD (l .headings) name
 unfolding headingAt
 read l name = sym (List·getD-map headingOf (l .headings) name (record { kept = false; sum = [] }))
 
-map-set : (hs : List Heading) (i : ℕ) (h : Heading) → map headingOf (set hs i h) ≡ set (map headingOf hs) i (headingOf h)
-map-set [] i h = refl
-map-set (x ∷ hs) zero h = refl
-map-set (x ∷ hs) (suc i) h = ap (λ r. headingOf x ∷ r) (map-set hs i h)
-
-pub stored : (l : code.Ledger) (name : ℕ) (sum : List ℕ) (c : ℕ) →
-    record {
-      set = l .set;
-      key = l .key;
-      console = l .console;
-      total = l .total + c;
-      begun = l .begun;
-      last = l .last;
-      headings = map headingOf (set (l .headings) name (record { kept = true; sum = sum }));
-    } ≡ keeping (valueOf l) name sum c
-stored l name sum c =
-    ap (λ (hs : List rules.Heading).
-    record { set = l .set; key = l .key; console = l .console; total = l .total + c; begun = l .begun; last = l .last; headings = hs })
-    (map-set (l .headings) name (record { kept = true; sum = sum }))
+pub stored : (hs : List Heading) (i : ℕ) (h : Heading) → map headingOf (set hs i h) ≡ set (map headingOf hs) i (headingOf h)
+stored [] i h = refl
+stored (x ∷ hs) zero h = refl
+stored (x ∷ hs) (suc i) h = ap (λ r. headingOf x ∷ r) (stored hs i h)
 
 -- ---- names
 
@@ -81,10 +65,10 @@ named-name l N name message out e = its-name name (both (isName name) (headingAt
 
 -- the checks in their groups
 pub keep-groups : {a b c x r : ℕ} (l : Ledger) (p : Parameters) (name ad : ℕ) → lookupOf (l .set) ≡ Known p → x ≡ firstOf a b → r ≡ firstOf x c →
-    a ≡ answer (badName (isName name) ∷ []) → b ≡ answer (longData ad ∷ []) → c ≡ answer (noBlocks (spent l (keepCharge ad)) ∷ []) → r ≡ keepAnswer l name ad
+    a ≡ answer (badName (isName name) ∷ []) → b ≡ answer (longData ad ∷ []) → c ≡ answer (noBlocks (spent l (keepCharge (l .heartbeats) ad)) ∷ []) → r ≡ keepAnswer l name ad
 unfolding keepAnswer keepRows answer numbers isIn ownNumbers
 keep-groups l p name ad known i j e f g =
-    joined (badName (isName name) ∷ longData ad ∷ []) (noBlocks (spent l (keepCharge ad)) ∷ []) refl j (joined (badName (isName name) ∷ []) (longData ad ∷ []) refl i e f) g
+    joined (badName (isName name) ∷ longData ad ∷ []) (noBlocks (spent l (keepCharge (l .heartbeats) ad)) ∷ []) refl j (joined (badName (isName name) ∷ []) (longData ad ∷ []) refl i e f) g
     ∙ rw (is-known (l .set) p known) refl
 
 module _ (l : Ledger) (name : ℕ) (A : List ℕ) where
@@ -97,7 +81,7 @@ module _ (l : Ledger) (name : ℕ) (A : List ℕ) where
 
   -- an accepted keeping, with the sum under the part of the key that it uses
   pub kept-call : {c : ℕ} {sum : List ℕ} (p : Parameters) (n : ℕ) (l′ : Ledger) → lookupOf (l .set) ≡ Known p → n ≡ p .key / 8 → keepAnswer l name (length A) ≡ 0 →
-      sum ≡ dataHash (cipher (take n (l .key))) (p .tau) (p .capacity) A → c ≡ keepCharge (length A) → l′ ≡ keeping l name sum c → l′ ≡ keptLedger l name A
+      sum ≡ dataHash (cipher (take n (l .key))) (p .tau) (p .capacity) A → c ≡ keepCharge (l .heartbeats) (length A) → l′ ≡ keeping l name sum c → l′ ≡ keptLedger l name A
   unfolding sumOf
   kept-call p n l′ known m z s c f =
       let v = its-values (l .set) p known in

@@ -4,12 +4,11 @@ use mathlib.Core.List.{List, map}
 use Prim.Native.Nat.{ℕ}
 use Rattle.answers.specs.Rows.{answer, firstOf}
 use Rattle.cba_mode.specs.Sets.{tagBytes}
-use Rattle.cba_mode.specs.Charge.{charge}
 use Rattle.cba_rules.specs.Checks.{messageRows}
 use Rattle.cba_steps.specs.declared.parameters.Parameters.{Parameters}
 use Rattle.ledger.specs.declared.ledger.Heading.{Heading}
 use Rattle.ledger.specs.declared.ledger.Ledger.{Ledger}
-use Rattle.ledger_rules.specs.Ledger.{nonceRows, stale, spent, ownRows, LedgerCall, KeepCall}
+use Rattle.ledger_rules.specs.Ledger.{nonceRows, stale, chargeBy, spent, ownRows, LedgerCall, KeepCall, CarryCall}
 use Rattle.ledger_rules.specs.Ledger.Source.{given, named}
 use Rattle.ledger_rules.specs.Ledger as rules
 
@@ -23,6 +22,7 @@ valueOf l =
       key = l .key;
       console = l .console;
       total = l .total;
+      heartbeats = l .heartbeats;
       begun = l .begun;
       last = l .last;
       headings = map headingOf (l .headings);
@@ -36,7 +36,7 @@ firstChecks console p N source message room =
 -- and the ledger's own after them, where ad is the length that its data are charged for
 abbrev pub allChecks : Ledger → Parameters → List ℕ → ℕ → ℕ → ℕ → ℕ → ℕ
 allChecks l p N source ad message room =
-    let own = ownRows (stale (valueOf l) N) (spent (valueOf l) (charge ad message)) in
+    let own = ownRows (stale (valueOf l) N) (spent (valueOf l) (chargeBy (l .heartbeats) ad message)) in
     firstOf (firstChecks (l .console) p N source message room) (answer own)
 
 -- a sealing: its answer r, the next ledger l′, and out′, the output at exit
@@ -50,3 +50,7 @@ RanByName l N name M out r l′ out′ = LedgerCall (valueOf l) N (named name) M
 -- a keeping: its answer r and the next ledger l′
 abbrev pub Keeps : Ledger → ℕ → List ℕ → ℕ → Ledger → Type 0
 Keeps l name A r l′ = KeepCall (valueOf l) name A r (valueOf l′)
+
+-- a carrying: its answer r and the next ledger l′
+abbrev pub Carries : Ledger → ℕ → Ledger → Type 0
+Carries l r l′ = CarryCall (valueOf l) r (valueOf l′)

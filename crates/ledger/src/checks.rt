@@ -5,8 +5,7 @@ ghost use Prim.Native.Nat.{_+_, _/_, _^_, _≤_};
 ghost use lib.Dec.{ltb};
 ghost use lib.ListN.{length};
 ghost use Rattle.octets.specs.Numbers.{number};
-ghost use Rattle.cba_mode.specs.Charge.{charge};
-ghost use Rattle.ledger_rules.specs.Ledger.{consoleOf};
+ghost use Rattle.ledger_rules.specs.Ledger.{consoleOf, chargeBy};
 
 // The console number that a nonce begins with.
 pub fn console_of(nonce: &[u8]) -> u16
@@ -43,11 +42,15 @@ fn blocks(n: usize) -> u64
     (n / 16 + (n % 16 + 15) / 16) as u64
 }
 
-// The blocks of data and message.
-pub fn charge(ad: usize, message: usize) -> u64
-    ensures { λ r. ⌜ r ≡ charge ad message ⌝ }
+// The blocks of data and message; where heartbeats are charged, at least one.
+pub fn charge(heartbeats: bool, ad: usize, message: usize) -> u64
+    ensures { λ r. ⌜ r ≡ chargeBy heartbeats ad message ⌝ }
 {
-    blocks(ad) + blocks(message)
+    let n = blocks(ad) + blocks(message);
+    if n != 0 {
+        return n;
+    }
+    heartbeats as u64
 }
 
 // Whether a charge goes into what is left of the capacity. The sum is not formed: it might not fit.

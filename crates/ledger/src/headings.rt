@@ -90,7 +90,7 @@ fn keep_checks(l: Ledger, p: Parameters, name: u32, ad: usize) -> u32
     ensures { λ r. ⌜ r ≡ keepAnswer (valueOf l) name ad ⌝ }
 {
     let a = first_of(name_check(name < NAMES), ad_check(ad));
-    first_of(a, capacity_check(l, p, charge(ad, 0)))
+    first_of(a, capacity_check(l, p, charge(l.heartbeats, ad, 0)))
 }
 
 // The ledger with a sum under a name and a charge added.
@@ -117,7 +117,7 @@ fn kept(l: Ledger, p: Parameters, name: u32, ad: &[u8]) -> Ledger
     let key = l.key;
     let n = p.key_bytes();
     let sum = sum_of(p, &key[..n], ad);
-    with_sum(l, name, sum, charge(ad.len(), 0))
+    with_sum(l, name, sum, charge(l.heartbeats, ad.len(), 0))
 }
 
 // The sealing by name of an input that no check refuses.
@@ -138,7 +138,7 @@ fn seal_named(
     let h = heading(l, name);
     let sum = h.sum;
     seal_with(p, &key[..n], nonce, sum, message, out);
-    next(l, nonce, charge(0, message.len()))
+    next(l, nonce, charge(l.heartbeats, 0, message.len()))
 }
 
 impl Ledger {

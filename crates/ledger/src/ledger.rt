@@ -12,6 +12,7 @@ use plain::lookup;
 use plain::message_check;
 use plain::nonce_check;
 ghost use mathlib.Core.Path.{_≡_};
+ghost use mathlib.Core.Bool.{true};
 ghost use mathlib.Core.List.{[], _∷_};
 ghost use Prim.Native.Nat.{_+_, _^_, _≤_, _<_};
 ghost use lib.ListN.{length};
@@ -29,8 +30,8 @@ pub struct Heading {
 }
 
 // The set, the key with zeros after it up to 32 bytes, the number of the console that seals, the
-// total of blocks charged, the last accepted nonce, where one has begun it, and what is kept under
-// the names 0 to 7.
+// total of blocks charged, whether a sealing or keeping with nothing to count is charged a block, the
+// last accepted nonce, where one has begun it, and what is kept under the names 0 to 7.
 //
 // Several consoles may seal under one key, each with a ledger. That their numbers differ and that
 // their totals stay at 2^b together is the hub's to see to: a ledger sees itself alone.
@@ -39,6 +40,7 @@ pub struct Ledger {
     pub key: [u8; 32],
     pub console: u16,
     pub total: u64,
+    pub heartbeats: bool,
     pub begun: bool,
     pub last: [u8; 12],
     pub headings: [Heading; 8],
@@ -71,6 +73,7 @@ fn none() -> Ledger
         key: [0; 32],
         console: 0,
         total: 0,
+        heartbeats: false,
         begun: false,
         last: [0; 12],
         headings: [NOTHING; 8],
@@ -80,7 +83,7 @@ fn none() -> Ledger
 // A fresh ledger.
 fn begin(set: u32, key: &[u8], console: u16) -> Ledger
     requires { ⌜ length (now key) ≤ 32 ⌝ }
-    ensures { λ r. ⌜ valueOf r ≡ fresh set (now (key .entry)) console ⌝ }
+    ensures { λ r. ⌜ valueOf r ≡ fresh true set (now (key .entry)) console ⌝ }
 {
     let mut k = [0u8; 32];
     octets::put(&mut k, key);
@@ -89,6 +92,7 @@ fn begin(set: u32, key: &[u8], console: u16) -> Ledger
         key: k,
         console: console,
         total: 0,
+        heartbeats: true,
         begun: false,
         last: [0; 12],
         headings: [NOTHING; 8],
@@ -202,7 +206,7 @@ pub fn checked(
     if refusal != 0 {
         return refusal;
     }
-    own_check(l, p, nonce, charge(ad, message))
+    own_check(l, p, nonce, charge(l.heartbeats, ad, message))
 }
 
 // The ledger after an accepted sealing: the charge added, the nonce kept.
@@ -237,7 +241,7 @@ fn accepted(
     let key = l.key;
     let n = p.key_bytes();
     let answer = plain::seal_plain(l.set, &key[..n], nonce, ad, message, out);
-    let after = next(l, nonce, charge(ad.len(), message.len()));
+    let after = next(l, nonce, charge(l.heartbeats, ad.len(), message.len()));
     Outcome {
         answer: answer,
         ledger: after,

@@ -1,11 +1,11 @@
--- What a making, a sealing of either kind and a keeping on a ledger answer, and what they leave.
+-- What a making, a sealing of either kind, a keeping and a carrying on a ledger answer, and what they leave.
 -- Assumes nothing.
-use mathlib.Core.Path.{_≡_, refl, sym, ap, ap₂, subst, _∙_}
-use mathlib.Core.Bool.{Bool, true, false, cond, not, false≢true}
+use mathlib.Core.Path.{_≡_, refl, sym, ap, ap₂, _∙_}
+use mathlib.Core.Bool.{Bool, true, false, cond, false≢true}
 use mathlib.Core.List.{List, [], _∷_, _++_}
 use Prim.Native.Nat.{ℕ, _+_, _^_, _<_, _≤_}
 use native.Mathlib.Omega.{arith}
-use borrow.Author.Tests.{ne-eqb, ltb-false, le-ltb}
+use borrow.Author.Tests.{eqb-true, eqb-false, ne-eqb, ltb-false, le-ltb}
 use lib.Dec.{eqb}
 use lib.ListN.{length, take}
 use lib.Pow.{pow-lt, pow-mono}
@@ -13,24 +13,20 @@ use lib.Seq.{length-take-le}
 use Rattle.answers.specs.Rows.{Row, answer, firstOf, Passes, numbers, isIn, ownNumbers, Decides}
 use Rattle.answers.proofs.RowLaws.{not-false, accepts, passes-parts, passed, decides, two-parts, goes-on}
 use Rattle.fips197.specs.Cipher.{cipher}
-use Rattle.cba_mode.specs.Sets.{isSet, keyBytes, tagBits, capacity}
+use Rattle.cba_mode.specs.Sets.{isSet, column, keyBytes, tagBits, capacity}
 use Rattle.cba_mode.specs.Data.{tagOfData}
 use Rattle.cba_mode.specs.Seal.{sealWith}
-use Rattle.cba_mode.specs.Charge.{charge}
+use Rattle.cba_mode.specs.Charge.{oldCharge, charge}
 use Rattle.cba_rules.specs.Checks.{setTag, badSet, messageRows}
 use Rattle.cba_rules.specs.Refusals.{sealing, sealAnswer, sealLeaves, sealOutput, SealCall}
 use Rattle.cba_rules.proofs.SetLaws.{set-fits, capacity-least}
 use Rattle.cba_rules.proofs.RefusalLaws.{Seals, is-length, has-length, message-passes, message-passed, seal-untouched, seal-accepts}
-use Rattle.ledger_rules.specs.Ledger.{Ledger, noLedger, fresh, makeRows, makeAnswer, madeLedger, keyOf, consoleOf, nonceRows, stale, spent, ownRows, headingAt, isName, isKept, Source, sourceRow, sealCharge, ledgerChecks, ledgerRows, ledgerAnswer, charged, nextLedger, ledgerSealing, ledgerOutput, LedgerCall, keepCharge, keepRows, keepAnswer, sumOf, keeping, keptLedger}
+use Rattle.ledger_rules.specs.Ledger.{Ledger, noLedger, fresh, makeRows, makeAnswer, madeLedger, keyOf, consoleOf, nonceRows, stale, chargeBy, spent, ownRows, headingAt, isName, isKept, Source, sourceRow, sealCharge, ledgerChecks, ledgerRows, ledgerAnswer, charged, nextLedger, ledgerSealing, ledgerOutput, LedgerCall, keepCharge, keepRows, keepAnswer, sumOf, keeping, keptLedger, carryRows, carryAnswer, withCharge, carriedLedger}
 use Rattle.ledger_rules.specs.Ledger.Source.{given, named}
 
 -- ---- making
 
 module _ (set : ℕ) (key : List ℕ) where
-  pub make-good : isSet set ≡ true → length key ≡ keyBytes set → makeAnswer set key ≡ 0
-  unfolding makeAnswer makeRows
-  make-good s k = accepts (makeRows set (length key)) (ap not s, (has-length (length key) (keyBytes set) k, tt))
-
   pub make-accepted : makeAnswer set key ≡ 0 → (isSet set ≡ true) × (length key ≡ keyBytes set)
   unfolding makeAnswer makeRows numbers isIn ownNumbers
   make-accepted e =
@@ -38,7 +34,7 @@ module _ (set : ℕ) (key : List ℕ) where
       (not-false (isSet set) (p .0), is-length (length key) (keyBytes set) (p .1 .0))
 
   -- a ledger that is not refused is fresh, and one that is refused is none
-  pub made-fresh : (console : ℕ) → makeAnswer set key ≡ 0 → madeLedger set key console ≡ fresh set key console
+  pub made-fresh : (console : ℕ) → makeAnswer set key ≡ 0 → madeLedger set key console ≡ fresh true set key console
   unfolding madeLedger
   made-fresh console e = rw e refl
 
@@ -111,8 +107,11 @@ module _ (l : Ledger) (N : List ℕ) (S : Source) (message out : ℕ) where
   abbrev checks : List Row
   checks = ledgerChecks (setTag (l .set)) (l .console) N (sourceRow l S) message out
 
+  abbrev its-charge : ℕ
+  its-charge = sealCharge (l .heartbeats) S message
+
   abbrev own : List Row
-  own = ownRows (stale l N) (spent l (sealCharge S message))
+  own = ownRows (stale l N) (spent l its-charge)
 
   abbrev AllReady : Type 0
   AllReady = Ready (setTag (l .set)) (l .console) N (sourceRow l S) message out
@@ -131,10 +130,10 @@ module _ (l : Ledger) (N : List ℕ) (S : Source) (message out : ℕ) where
   unfolding ledgerAnswer
   ledger-decides = decides (ledgerRows l N S message out) (own-rows l N S message out)
 
-  pub ledger-accepts : isSet (l .set) ≡ true → AllReady → stale l N ≡ false → spent l (sealCharge S message) ≡ false → ledgerAnswer l N S message out ≡ 0
+  pub ledger-accepts : isSet (l .set) ≡ true → AllReady → stale l N ≡ false → spent l its-charge ≡ false → ledgerAnswer l N S message out ≡ 0
   ledger-accepts s r x y = ledger-own s r ∙ accepts own (x, (y, tt))
 
-  pub ledger-spent : isSet (l .set) ≡ true → AllReady → stale l N ≡ false → spent l (sealCharge S message) ≡ true → ledgerAnswer l N S message out ≡ 10
+  pub ledger-spent : isSet (l .set) ≡ true → AllReady → stale l N ≡ false → spent l its-charge ≡ true → ledgerAnswer l N S message out ≡ 10
   unfolding answer
   ledger-spent s r x y = ledger-own s r ∙ rw (x, y) refl
 
@@ -143,7 +142,7 @@ module _ (l : Ledger) (N : List ℕ) (S : Source) (message out : ℕ) where
     pub is-set : isSet (l .set) ≡ true
     pub ready : AllReady
     pub not-stale : stale l N ≡ false
-    pub not-spent : spent l (sealCharge S message) ≡ false
+    pub not-spent : spent l its-charge ≡ false
 
   pub ledger-accepted : ledgerAnswer l N S message out ≡ 0 → Accepted
   unfolding ledgerRows
@@ -161,7 +160,7 @@ module _ (l : Ledger) (N : List ℕ) (S : Source) (message out : ℕ) where
   unfolding nextLedger
   next-refused n = rw (ne-eqb (ledgerAnswer l N S message out) 0 n) refl
 
-  pub next-accepted : ledgerAnswer l N S message out ≡ 0 → nextLedger l N S message out ≡ charged l N (sealCharge S message)
+  pub next-accepted : ledgerAnswer l N S message out ≡ 0 → nextLedger l N S message out ≡ charged l N its-charge
   unfolding nextLedger
   next-accepted e = rw e refl
 
@@ -214,7 +213,7 @@ module _ (l : Ledger) (N : List ℕ) (S : Source) (M out : List ℕ) where
       (sym z, ap₂ (λ (x : ℕ) (C : List ℕ). sealLeaves x C out) (e ∙ sym z) w)
 
   -- an accepted call, by what it leaves
-  pub ledger-done : (a : ℕ) (l′ : Ledger) (out′ : List ℕ) → its-answer ≡ 0 → a ≡ 0 → l′ ≡ charged l N (sealCharge S (length M)) →
+  pub ledger-done : (a : ℕ) (l′ : Ledger) (out′ : List ℕ) → its-answer ≡ 0 → a ≡ 0 → l′ ≡ charged l N (sealCharge (l .heartbeats) S (length M)) →
       out′ ≡ ledgerOutput l N S M out → LedgerCall l N S M out a l′ out′
   ledger-done a l′ out′ e z el eo =
       record { answer-is = z ∙ sym e; next-is = el ∙ sym (next-accepted l N S (length M) (length out) e); output-is = eo }
@@ -244,7 +243,7 @@ module _ (l : Ledger) (name ad : ℕ) where
     pub is-set : isSet (l .set) ≡ true
     pub is-name : isName name ≡ true
     pub data-limit : ad ≤ 4096
-    pub not-spent : spent l (keepCharge ad) ≡ false
+    pub not-spent : spent l (keepCharge (l .heartbeats) ad) ≡ false
 
   pub keep-accepted : keepAnswer l name ad ≡ 0 → KeepAccepted
   unfolding keepRows
@@ -262,7 +261,7 @@ module _ (l : Ledger) (name : ℕ) (A : List ℕ) where
   unfolding keptLedger
   kept-refused n = rw (ne-eqb (keepAnswer l name (length A)) 0 n) refl
 
-  pub kept-accepted : keepAnswer l name (length A) ≡ 0 → keptLedger l name A ≡ keeping l name (sumOf l A) (keepCharge (length A))
+  pub kept-accepted : keepAnswer l name (length A) ≡ 0 → keptLedger l name A ≡ keeping l name (sumOf l A) (keepCharge (l .heartbeats) (length A))
   unfolding keptLedger
   kept-accepted e = rw e refl
 
@@ -271,35 +270,81 @@ module _ (l : Ledger) (name : ℕ) (A : List ℕ) where
   unfolding keptLedger
   kept-nonce = go (eqb (keepAnswer l name (length A)) 0)
     where
-      go : (x : Bool) → let l′ = cond x (keeping l name (sumOf l A) (keepCharge (length A))) l in (l′ .begun ≡ l .begun) × (l′ .last ≡ l .last)
+      go : (x : Bool) → let l′ = cond x (keeping l name (sumOf l A) (keepCharge (l .heartbeats) (length A))) l in (l′ .begun ≡ l .begun) × (l′ .last ≡ l .last)
       go true = (refl, refl)
       go false = (refl, refl)
 
+-- ---- carrying over
+
+module _ (l : Ledger) where
+  pub carry-decides : Decides (carryRows l) (carryAnswer l)
+  unfolding carryAnswer carryRows numbers isIn ownNumbers
+  carry-decides = decides (carryRows l) refl
+
+  -- accepted or refused, it changes the charge alone
+  pub carried-only : withCharge (l .heartbeats) (carriedLedger l) ≡ l
+  unfolding carriedLedger
+  carried-only = go (eqb (carryAnswer l) 0) refl
+    where
+      go : (x : Bool) → eqb (carryAnswer l) 0 ≡ x → withCharge (l .heartbeats) (carriedLedger l) ≡ l
+      go true e = rw e refl
+      go false e = rw e refl
+
+  -- and nothing, where the ledger has the new charge
+  pub carried-same : l .heartbeats ≡ true → carriedLedger l ≡ l
+  unfolding carriedLedger
+  carried-same h = go (eqb (carryAnswer l) 0) refl
+    where
+      go : (x : Bool) → eqb (carryAnswer l) 0 ≡ x → carriedLedger l ≡ l
+      go true e = rw e (ap (λ (b : Bool). withCharge b l) (sym h))
+      go false e = rw e refl
+
+  pub carried-refused : (carryAnswer l ≡ 0 → ⊥) → carriedLedger l ≡ l
+  unfolding carriedLedger
+  carried-refused n = rw (ne-eqb (carryAnswer l) 0 n) refl
+
+  pub carried-accepted : carryAnswer l ≡ 0 → carriedLedger l ≡ withCharge true l
+  unfolding carriedLedger
+  carried-accepted e = rw e refl
+
+pub carried-twice : (l : Ledger) → carriedLedger (carriedLedger l) ≡ carriedLedger l
+carried-twice l = go (eqb (carryAnswer l) 0) refl
+  where
+    go : (x : Bool) → eqb (carryAnswer l) 0 ≡ x → carriedLedger (carriedLedger l) ≡ carriedLedger l
+    go true e = carried-same (carriedLedger l) (ap (λ (m : Ledger). m .heartbeats) (carried-accepted l (eqb-true (carryAnswer l) 0 e)))
+    go false e = ap carriedLedger (carried-refused l (eqb-false (carryAnswer l) 0 e))
+
+-- what a making gave has the new charge, or no set
+pub made-same : (set : ℕ) (key : List ℕ) (console : ℕ) → carriedLedger (madeLedger set key console) ≡ madeLedger set key console
+unfolding madeLedger carryAnswer carryRows answer isSet column
+made-same set key console = go (eqb (makeAnswer set key) 0) refl
+  where
+    go : (x : Bool) → eqb (makeAnswer set key) 0 ≡ x → carriedLedger (madeLedger set key console) ≡ madeLedger set key console
+    go true e = rw e (carried-same (fresh true set key console) refl)
+    go false e = rw e (carried-refused noLedger (λ z. omega (arith, z)))
+
 -- ---- a fresh ledger
 
-module _ (set : ℕ) (key : List ℕ) (console : ℕ) (N : List ℕ) where
-  made-new : stale (madeLedger set key console) N ≡ false
-  unfolding stale madeLedger
-  made-new = go (eqb (makeAnswer set key) 0)
-    where
-      go : (x : Bool) → stale (cond x (fresh set key console) noLedger) N ≡ false
-      go true = refl
-      go false = refl
+-- its first charge is within every capacity
+charge-most : (b : Bool) (ad message : ℕ) → ad ≤ 4096 → message ≤ 65536 → chargeBy b ad message ≤ 65536
+unfolding chargeBy charge oldCharge
+charge-most true ad message h k = omega arith
+charge-most false ad message h k = omega arith
 
-  pub never-stale : (S : Source) (message out : ℕ) → ledgerAnswer (madeLedger set key console) N S message out ≡ 9 → ⊥
-  unfolding ledgerRows
+module _ (b : Bool) (set : ℕ) (key : List ℕ) (console : ℕ) (N : List ℕ) where
+  pub never-stale : (S : Source) (message out : ℕ) → ledgerAnswer (fresh b set key console) N S message out ≡ 9 → ⊥
+  unfolding ledgerRows stale
   never-stale S message out e =
-      let l = madeLedger set key console in
-      let checks = badSet (l .set) ∷ ledgerChecks (setTag (l .set)) (l .console) N (sourceRow l S) message out in
-      false≢true (sym made-new ∙ ledger-decides l N S message out .refused checks _ _ refl e .1)
+      let l = fresh b set key console in
+      let checks = badSet set ∷ ledgerChecks (setTag set) console N (sourceRow l S) message out in
+      false≢true (ledger-decides l N S message out .refused checks _ _ refl e .1)
 
   pub takes-first : (A : List ℕ) (message out : ℕ) → makeAnswer set key ≡ 0 → length N ≡ 12 → consoleOf N ≡ console → length A ≤ 4096 → message ≤ 65536 →
-      message + setTag set ≤ out → ledgerAnswer (madeLedger set key console) N (given A) message out ≡ 0
-  unfolding stale spent sourceRow sealCharge charge
+      message + setTag set ≤ out → ledgerAnswer (fresh b set key console) N (given A) message out ≡ 0
+  unfolding stale spent sourceRow sealCharge
   takes-first A message out e n c a m o =
       let s = make-accepted set key e .0 in
       let k = pow-mono {i = 16} {j = capacity set} (capacity-least set s) in
-      subst (λ (l : Ledger). ledgerAnswer l N (given A) message out ≡ 0) (sym (made-fresh set key console e))
-      (ledger-accepts (fresh set key console) N (given A) message out s
+      ledger-accepts (fresh b set key console) N (given A) message out s
       (record { nonce-length = n; begins = c; source-passes = le-ltb 4096 (length A) a; seals = record { limit = m; room = o } }) refl
-      (le-ltb (2 ^ capacity set) (0 + charge (length A) message) (omega (arith, k))))
+      (le-ltb (2 ^ capacity set) (0 + chargeBy b (length A) message) (omega (arith, k, charge-most b (length A) message a m)))

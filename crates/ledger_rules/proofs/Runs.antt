@@ -1,13 +1,12 @@
--- Lists of calls: the total is the sum of the accepted charges and within the capacity, the nonces rise and begin with the console, and
--- what is under a name is the sum of the data last kept there.
+-- Lists of calls: the total is the sum of the accepted charges, up to a carrying and after it, and within the capacity; the nonces rise and
+-- begin with the console; and what is under a name is the sum of the data last kept there.
 -- Assumes nothing.
 use mathlib.Core.Path.{_≡_, refl, sym, ap, subst, _∙_}
 use mathlib.Core.Bool.{Bool, true, false, cond, _&&_}
-use mathlib.Core.List.{List, [], _∷_}
+use mathlib.Core.List.{List, [], _∷_, _++_}
 use mathlib.Core.Logic.{⊎-elim}
 use mathlib.Core.Option.{Option, none, some}
 use Prim.Native.Nat.{ℕ, _+_, _^_, _<_, _≤_}
-use native.Mathlib.Nat.{add-assoc}
 use native.Mathlib.Omega.{arith}
 use borrow.Author.Tests.{eqb-true, eqb-false, leb-false, ltb-true}
 use lib.Dec.{eqb, leb}
@@ -15,10 +14,28 @@ use lib.ListN.{length, length-set}
 use lib.Seq.{getD-set-same, getD-set-other}
 use Rattle.octets.specs.Numbers.{number}
 use Rattle.cba_mode.specs.Sets.{capacity}
-use Rattle.ledger_rules.specs.Ledger.{Heading, Ledger, keyOf, consoleOf, stale, headingAt, isName, charged, sumOf, keeping}
-use Rattle.ledger_rules.specs.Runs.{Call, Sealing, Keeping, answerOn, after, outOf, outputOn, chargeOf, run, accepted, charges, nonces, lastKept, RisingFrom, Rising, Among}
-use Rattle.ledger_rules.specs.Runs.Call.{seals, keeps}
-use Rattle.ledger_rules.proofs.LedgerLaws.{total-within, ledger-accepted, ledger-refused, next-accepted, keep-accepted, kept-refused, kept-accepted, kept-nonce}
+use Rattle.ledger_rules.specs.Ledger.{Heading, Ledger, keyOf, consoleOf, stale, headingAt, isName, charged, sumOf, keeping, withCharge}
+use Rattle.ledger_rules.specs.Runs.{Call, Sealing, Keeping, answerOn, after, outOf, outputOn, chargeOf, run, accepted, charges, beforeCarrying, sinceCarrying, NoCarrying, added, nonces, lastKept, RisingFrom, Rising, Among}
+use Rattle.ledger_rules.specs.Runs.Call.{seals, keeps, carries}
+use Rattle.ledger_rules.proofs.LedgerLaws.{total-within, ledger-accepted, ledger-refused, next-accepted, keep-accepted, kept-refused, kept-accepted, kept-nonce, carried-refused, carried-accepted}
+
+-- ---- sums of charges
+
+-- cut at the first carrying
+pub in-two : (b : Bool) (cs : List Call) → charges b (beforeCarrying cs) + charges b (sinceCarrying cs) ≡ charges b cs
+unfolding charges beforeCarrying sinceCarrying chargeOf
+in-two b [] = refl
+in-two b (seals s ∷ cs) = omega (arith, in-two b cs)
+in-two b (keeps k ∷ cs) = omega (arith, in-two b cs)
+in-two b (carries ∷ cs) = refl
+
+pub cut : (xs ys : List Call) → NoCarrying xs → beforeCarrying ys ≡ [] →
+    (beforeCarrying (xs ++ ys) ≡ xs) × (sinceCarrying (xs ++ ys) ≡ sinceCarrying ys)
+unfolding beforeCarrying sinceCarrying
+cut [] ys n e = (e, refl)
+cut (seals s ∷ xs) ys n e = let h = cut xs ys n e in (ap (λ (zs : List Call). seals s ∷ zs) (h .0), h .1)
+cut (keeps k ∷ xs) ys n e = let h = cut xs ys n e in (ap (λ (zs : List Call). keeps k ∷ zs) (h .0), h .1)
+cut (carries ∷ xs) ys n e = absurd n
 
 -- ---- one call
 
@@ -26,33 +43,42 @@ pub after-refused : (l : Ledger) (c : Call) → (answerOn l c ≡ 0 → ⊥) →
 unfolding answerOn after outputOn outOf
 after-refused l (seals s) n = let r = ledger-refused l (s .nonce) (s .source) (s .message) (s .out) _ refl n in (sym (r .next-is), sym (r .output-is))
 after-refused l (keeps k) n = (kept-refused l (k .name) (k .ad) n, refl)
+after-refused l carries n = (carried-refused l n, refl)
 
-after-sealed : (l : Ledger) (s : Sealing) → answerOn l (seals s) ≡ 0 → after l (seals s) ≡ charged l (s .nonce) (chargeOf (seals s))
+after-sealed : (l : Ledger) (s : Sealing) → answerOn l (seals s) ≡ 0 → after l (seals s) ≡ charged l (s .nonce) (chargeOf (l .heartbeats) (seals s))
 unfolding answerOn after chargeOf
 after-sealed l s e = next-accepted l (s .nonce) (s .source) (length (s .message)) (length (s .out)) e
 
-after-kept : (l : Ledger) (k : Keeping) → answerOn l (keeps k) ≡ 0 → after l (keeps k) ≡ keeping l (k .name) (sumOf l (k .ad)) (chargeOf (keeps k))
+after-kept : (l : Ledger) (k : Keeping) → answerOn l (keeps k) ≡ 0 → after l (keeps k) ≡ keeping l (k .name) (sumOf l (k .ad)) (chargeOf (l .heartbeats) (keeps k))
 unfolding answerOn after chargeOf
 after-kept l k e = kept-accepted l (k .name) (k .ad) e
+
+after-carried : (l : Ledger) → answerOn l carries ≡ 0 → after l carries ≡ withCharge true l
+unfolding answerOn after
+after-carried l e = carried-accepted l e
 
 -- what an accepted call does to the ledger, which is m after it
 record Adds (l m : Ledger) (c : Call) : Type 0 where
   set-kept : m .set ≡ l .set
   key-kept : m .key ≡ l .key
   console-kept : m .console ≡ l .console
-  total-is : m .total ≡ l .total + chargeOf c
-  within : l .total + chargeOf c ≤ 2 ^ capacity (l .set)
+  charge-kept : l .heartbeats ≡ true → m .heartbeats ≡ true
+  owes : (cs : List Call) → m .total + added m cs ≡ l .total + added l (c ∷ cs)
+  within : l .total ≤ 2 ^ capacity (l .set) → m .total ≤ 2 ^ capacity (l .set)
 
 adds : (l : Ledger) (c : Call) → answerOn l c ≡ 0 → Adds l (after l c) c
-unfolding answerOn chargeOf
+unfolding answerOn chargeOf charges beforeCarrying sinceCarrying
 adds l (seals s) e =
     let w = total-within l _ (ledger-accepted l (s .nonce) (s .source) (length (s .message)) (length (s .out)) e .not-spent) in
     subst (λ (m : Ledger). Adds l m (seals s)) (sym (after-sealed l s e))
-    (record { set-kept = refl; key-kept = refl; console-kept = refl; total-is = refl; within = w })
+    (record { set-kept = refl; key-kept = refl; console-kept = refl; charge-kept = λ h. h; owes = λ cs. omega arith; within = λ h. w })
 adds l (keeps k) e =
     let w = total-within l _ (keep-accepted l (k .name) (length (k .ad)) e .not-spent) in
     subst (λ (m : Ledger). Adds l m (keeps k)) (sym (after-kept l k e))
-    (record { set-kept = refl; key-kept = refl; console-kept = refl; total-is = refl; within = w })
+    (record { set-kept = refl; key-kept = refl; console-kept = refl; charge-kept = λ h. h; owes = λ cs. omega arith; within = λ h. w })
+adds l carries e =
+    subst (λ (m : Ledger). Adds l m carries) (sym (after-carried l e))
+    (record { set-kept = refl; key-kept = refl; console-kept = refl; charge-kept = λ h. refl; owes = λ cs. omega (arith, in-two true cs); within = λ h. h })
 
 -- an accepted nonce is above the last
 above-last : (l : Ledger) (s : Sealing) → answerOn l (seals s) ≡ 0 → l .begun ≡ true → number (l .last) < number (s .nonce)
@@ -88,24 +114,24 @@ module _ (P : Ledger → Ledger → List Call → Type 0) (start : (l : Ledger) 
 pub record Sums (l m : Ledger) (cs : List Call) : Type 0 where
   pub set-stays : m .set ≡ l .set
   pub key-stays : m .key ≡ l .key
-  pub sum : m .total ≡ l .total + charges cs
+  pub charge-stays : l .heartbeats ≡ true → m .heartbeats ≡ true
+  pub sum : m .total ≡ l .total + added l cs
   pub within : l .total ≤ 2 ^ capacity (l .set) → m .total ≤ 2 ^ capacity (l .set)
 
 one-sum : (l m : Ledger) (c : Call) (cs : List Call) → answerOn l c ≡ 0 → Sums (after l c) m cs → Sums l m (c ∷ cs)
-unfolding charges
 one-sum l m c cs e h =
     let d = adds l c e in
-    let now : after l c .total ≤ 2 ^ capacity (after l c .set) = rw (d .set-kept, d .total-is) (d .within) in
     record {
       set-stays = h .set-stays ∙ d .set-kept;
       key-stays = h .key-stays ∙ d .key-kept;
-      sum = h .sum ∙ ap (λ (t : ℕ). t + charges cs) (d .total-is) ∙ add-assoc (l .total) (chargeOf c) (charges cs);
-      within = λ k. subst (λ (x : ℕ). m .total ≤ 2 ^ capacity x) (d .set-kept) (h .within now);
+      charge-stays = λ b. h .charge-stays (d .charge-kept b);
+      sum = h .sum ∙ d .owes cs;
+      within = λ k. subst (λ (x : ℕ). after l c .total ≤ 2 ^ capacity x → m .total ≤ 2 ^ capacity x) (d .set-kept) (h .within) (d .within k);
     }
 
 pub sums : (cs : List Call) (l : Ledger) → Sums l (run l cs) (accepted l cs)
-unfolding charges
-sums = by-calls Sums (λ l. record { set-stays = refl; key-stays = refl; sum = omega arith; within = λ k. k }) one-sum
+unfolding charges beforeCarrying sinceCarrying
+sums = by-calls Sums (λ l. record { set-stays = refl; key-stays = refl; charge-stays = λ b. b; sum = omega arith; within = λ k. k }) one-sum
 
 -- ---- the nonces
 
@@ -132,6 +158,9 @@ one-rise l m (keeps k) cs e h =
       rise-new = h .rise-new;
       begin = λ N i. h .begin N i ∙ adds l (keeps k) e .console-kept;
     }
+one-rise l m carries cs e h =
+    let n = after-carried l e in
+    subst (λ (x : Ledger). Rises x m cs → Rises l m (carries ∷ cs)) (sym n) (λ r. record { rise = r .rise; rise-new = r .rise-new; begin = r .begin }) h
 
 pub rises : (cs : List Call) (l : Ledger) → Rises l (run l cs) (accepted l cs)
 unfolding nonces
@@ -153,18 +182,18 @@ module _ (name : ℕ) where
   Names l m cs = (o : Option (List ℕ)) → length (l .headings) ≡ 8 → On l o → On m (lastKept name o cs)
 
   one-kept : (l : Ledger) (k : Keeping) (o : Option (List ℕ)) → answerOn l (keeps k) ≡ 0 → length (l .headings) ≡ 8 → On l o →
-      On (keeping l (k .name) (sumOf l (k .ad)) (chargeOf (keeps k))) (cond (eqb (k .name) name) (some (k .ad)) o)
+      On (keeping l (k .name) (sumOf l (k .ad)) (chargeOf (l .heartbeats) (keeps k))) (cond (eqb (k .name) name) (some (k .ad)) o)
   unfolding answerOn headingAt isName sumOf keyOf
   one-kept l k o e n u = go (eqb (k .name) name) refl
     where
-      go : (x : Bool) → eqb (k .name) name ≡ x → On (keeping l (k .name) (sumOf l (k .ad)) (chargeOf (keeps k))) (cond (eqb (k .name) name) (some (k .ad)) o)
+      go : (x : Bool) → eqb (k .name) name ≡ x → On (keeping l (k .name) (sumOf l (k .ad)) (chargeOf (l .heartbeats) (keeps k))) (cond (eqb (k .name) name) (some (k .ad)) o)
       go true f =
           let i : k .name ≡ name = eqb-true (k .name) name f in
           let a = keep-accepted l (k .name) (length (k .ad)) e in
           let low = ltb-true (k .name) 8 (a .is-name) in
           let same = getD-set-same (l .headings) (k .name) (record { kept = true; sum = sumOf l (k .ad) }) (record { kept = false; sum = [] }) (omega (arith, n, low)) in
           rw f
-          (subst (λ (j : ℕ). Under (isName j) (headingAt (keeping l (k .name) (sumOf l (k .ad)) (chargeOf (keeps k))) j) (sumOf l) (some (k .ad))) i
+          (subst (λ (j : ℕ). Under (isName j) (headingAt (keeping l (k .name) (sumOf l (k .ad)) (chargeOf (l .heartbeats) (keeps k))) j) (sumOf l) (some (k .ad))) i
           (subst (λ (x : Heading). Under (isName (k .name)) x (sumOf l) (some (k .ad))) (sym same) (ap (λ (b : Bool). b && true) (a .is-name), refl, a .data-limit)))
       go false f =
           let other = getD-set-other (l .headings) (k .name) name (record { kept = true; sum = sumOf l (k .ad) }) (record { kept = false; sum = [] }) (λ i. eqb-false (k .name) name f (sym i)) in
@@ -179,6 +208,9 @@ module _ (name : ℕ) where
       let w = after-kept l k e in
       h _ (subst (λ (x : Ledger). length (x .headings) ≡ 8) (sym w) (length-set (l .headings) (k .name) _ ∙ n))
       (subst (λ (x : Ledger). On x (cond (eqb (k .name) name) (some (k .ad)) o)) (sym w) (one-kept l k o e n u))
+  one-name l m carries cs e h o n u =
+      let w = after-carried l e in
+      h o (subst (λ (x : Ledger). length (x .headings) ≡ 8) (sym w) n) (subst (λ (x : Ledger). On x o) (sym w) u)
 
   pub names : (cs : List Call) (l : Ledger) → Names l (run l cs) (accepted l cs)
   unfolding lastKept

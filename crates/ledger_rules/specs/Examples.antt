@@ -1,13 +1,14 @@
--- Example calls on a ledger: one fault each, then each with all that follow it, and the answer.
+-- Example calls on a ledger: one fault each, then each with all that follow it, and the answer; calls with nothing to count, with either
+-- charge; carryings.
 -- Assumes nothing.
-use mathlib.Core.Bool.{Bool, true, _&&_}
+use mathlib.Core.Bool.{Bool, true, false, _&&_}
 use mathlib.Core.List.{List, [], _∷_, _++_}
 use Prim.Native.Nat.{ℕ, _-_}
 use lib.Dec.{eqb}
 use lib.ListN.{getD, take, replicate}
 use Rattle.answers.specs.Rows.{answer}
-use Rattle.ledger_rules.specs.Ledger.{Ledger, noHeadings, makeRows, Source, ledgerAnswer, keepAnswer}
-use Rattle.ledger_rules.specs.Ledger.Source.{given}
+use Rattle.ledger_rules.specs.Ledger.{Ledger, noHeadings, makeRows, Source, ledgerAnswer, keepAnswer, carryAnswer}
+use Rattle.ledger_rules.specs.Ledger.Source.{given, named}
 
 -- the answer, then set and key
 abbrev pub makings : List (List ℕ)
@@ -21,25 +22,25 @@ makesSo (c ∷ cs) = eqb (answer (makeRows (getD c 1 0) (getD c 2 0))) (getD c 0
 abbrev nonceOf : ℕ → ℕ → ℕ → ℕ → List ℕ
 nonceOf n first second last = take n (first ∷ second ∷ (replicate (n - 3) 0 ++ (last ∷ [])))
 
--- a ledger of a set, a console and a total, begun, whose last nonce is the number 1: the nonce of another console, but for console 0;
--- something is kept under the name 7
-abbrev at : ℕ → ℕ → ℕ → Ledger
-at set console total =
+-- a ledger with either charge, of a set, a console and a total, begun, whose last nonce is the number 1: the nonce of another console, but
+-- for console 0; something is kept under the name 7
+abbrev at : Bool → ℕ → ℕ → ℕ → Ledger
+at heartbeats set console total =
     record {
       set = set;
       key = replicate 32 0;
       console = console;
       total = total;
+      heartbeats = heartbeats;
       begun = true;
       last = nonceOf 12 0 0 1;
       headings = lib.ListN.set noHeadings 7 (record { kept = true; sum = replicate 16 0 });
     }
 
--- the answer, then set, console and total, the nonce's length, its first two bytes and its last, data, message and room
+-- with either charge: the answer, then set, console and total, the nonce's length, its first two bytes and its last, data, message and room
 abbrev pub sealings : List (List ℕ)
 sealings =
     (0 ∷ 1 ∷ 0 ∷ 61184 ∷ 12 ∷ 0 ∷ 0 ∷ 2 ∷ 4096 ∷ 65536 ∷ 65540 ∷ [])
-    ∷ (0 ∷ 1 ∷ 0 ∷ 65536 ∷ 12 ∷ 0 ∷ 0 ∷ 2 ∷ 0 ∷ 0 ∷ 4 ∷ [])
     ∷ (0 ∷ 1 ∷ 258 ∷ 0 ∷ 12 ∷ 1 ∷ 2 ∷ 0 ∷ 0 ∷ 0 ∷ 4 ∷ [])
     ∷ (0 ∷ 1 ∷ 65535 ∷ 0 ∷ 12 ∷ 255 ∷ 255 ∷ 0 ∷ 0 ∷ 0 ∷ 4 ∷ [])
     ∷ (1 ∷ 0 ∷ 0 ∷ 0 ∷ 12 ∷ 0 ∷ 0 ∷ 2 ∷ 0 ∷ 0 ∷ 16 ∷ [])
@@ -68,7 +69,6 @@ sealings =
 abbrev pub namings : List (List ℕ)
 namings =
     (0 ∷ 1 ∷ 0 ∷ 61440 ∷ 12 ∷ 0 ∷ 0 ∷ 2 ∷ 7 ∷ 65536 ∷ 65540 ∷ [])
-    ∷ (0 ∷ 1 ∷ 0 ∷ 65536 ∷ 12 ∷ 0 ∷ 0 ∷ 2 ∷ 7 ∷ 0 ∷ 4 ∷ [])
     ∷ (13 ∷ 1 ∷ 0 ∷ 0 ∷ 12 ∷ 0 ∷ 0 ∷ 2 ∷ 0 ∷ 0 ∷ 16 ∷ [])
     ∷ (13 ∷ 1 ∷ 0 ∷ 0 ∷ 12 ∷ 0 ∷ 0 ∷ 2 ∷ 8 ∷ 0 ∷ 16 ∷ [])
     ∷ (13 ∷ 1 ∷ 0 ∷ 0 ∷ 12 ∷ 0 ∷ 0 ∷ 2 ∷ 4294967295 ∷ 0 ∷ 16 ∷ [])
@@ -82,12 +82,12 @@ namings =
     ∷ (9 ∷ 1 ∷ 0 ∷ 65536 ∷ 12 ∷ 0 ∷ 0 ∷ 1 ∷ 7 ∷ 65536 ∷ 65540 ∷ [])
     ∷ []
 
-unfoldable pub sealsSo : (ℕ → Source) → List (List ℕ) → Bool
-sealsSo source [] = true
-sealsSo source (c ∷ cs) =
-    let l = at (getD c 1 0) (getD c 2 0) (getD c 3 0) in
+unfoldable pub sealsSo : Bool → (ℕ → Source) → List (List ℕ) → Bool
+sealsSo heartbeats source [] = true
+sealsSo heartbeats source (c ∷ cs) =
+    let l = at heartbeats (getD c 1 0) (getD c 2 0) (getD c 3 0) in
     let N = nonceOf (getD c 4 0) (getD c 5 0) (getD c 6 0) (getD c 7 0) in
-    eqb (ledgerAnswer l N (source (getD c 8 0)) (getD c 9 0) (getD c 10 0)) (getD c 0 0) && sealsSo source cs
+    eqb (ledgerAnswer l N (source (getD c 8 0)) (getD c 9 0) (getD c 10 0)) (getD c 0 0) && sealsSo heartbeats source cs
 
 -- data of so many bytes
 abbrev pub zeros : ℕ → Source
@@ -97,7 +97,6 @@ zeros n = given (replicate n 0)
 abbrev pub keepings : List (List ℕ)
 keepings =
     (0 ∷ 1 ∷ 65280 ∷ 0 ∷ 4096 ∷ [])
-    ∷ (0 ∷ 1 ∷ 65536 ∷ 7 ∷ 0 ∷ [])
     ∷ (0 ∷ 10 ∷ 65536 ∷ 7 ∷ 1 ∷ [])
     ∷ (1 ∷ 0 ∷ 0 ∷ 0 ∷ 0 ∷ [])
     ∷ (13 ∷ 1 ∷ 0 ∷ 8 ∷ 0 ∷ [])
@@ -110,6 +109,30 @@ keepings =
     ∷ (4 ∷ 1 ∷ 65536 ∷ 7 ∷ 4097 ∷ [])
     ∷ []
 
-unfoldable pub keepsSo : List (List ℕ) → Bool
-keepsSo [] = true
-keepsSo (c ∷ cs) = eqb (keepAnswer (at (getD c 1 0) 0 (getD c 2 0)) (getD c 3 0) (getD c 4 0)) (getD c 0 0) && keepsSo cs
+unfoldable pub keepsSo : Bool → List (List ℕ) → Bool
+keepsSo heartbeats [] = true
+keepsSo heartbeats (c ∷ cs) =
+    eqb (keepAnswer (at heartbeats (getD c 1 0) 0 (getD c 2 0)) (getD c 3 0) (getD c 4 0)) (getD c 0 0) && keepsSo heartbeats cs
+
+-- calls of set 1 with nothing to count: the total, then the answer with the older charge and the answer with the new one
+abbrev pub empties : List (List ℕ)
+empties = (65535 ∷ 0 ∷ 0 ∷ []) ∷ (65536 ∷ 0 ∷ 10 ∷ []) ∷ (65537 ∷ 10 ∷ 10 ∷ []) ∷ []
+
+-- a sealing of each kind and a keeping answer a
+abbrev answerSo : Ledger → ℕ → Bool
+answerSo l a =
+    let N = nonceOf 12 0 0 2 in
+    eqb (ledgerAnswer l N (given []) 0 4) a && eqb (ledgerAnswer l N (named 7) 0 4) a && eqb (keepAnswer l 7 0) a
+
+unfoldable pub emptiesSo : List (List ℕ) → Bool
+emptiesSo [] = true
+emptiesSo (c ∷ cs) =
+    answerSo (at false 1 0 (getD c 0 0)) (getD c 1 0) && answerSo (at true 1 0 (getD c 0 0)) (getD c 2 0) && emptiesSo cs
+
+-- carryings: the answer, then the set
+abbrev pub carryings : List (List ℕ)
+carryings = (0 ∷ 1 ∷ []) ∷ (0 ∷ 10 ∷ []) ∷ (1 ∷ 0 ∷ []) ∷ (1 ∷ 11 ∷ []) ∷ (1 ∷ 4294967295 ∷ []) ∷ []
+
+unfoldable pub carriesSo : Bool → List (List ℕ) → Bool
+carriesSo heartbeats [] = true
+carriesSo heartbeats (c ∷ cs) = eqb (carryAnswer (at heartbeats (getD c 1 0) 0 0)) (getD c 0 0) && carriesSo heartbeats cs

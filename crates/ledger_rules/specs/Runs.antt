@@ -13,7 +13,7 @@ use Rattle.answers.specs.Rows.{Decides}
 use Rattle.cba_mode.specs.Sets.{capacity}
 use Rattle.cba_rules.specs.Checks.{setTag}
 use Rattle.cba_rules.specs.Refusals.{SealCall}
-use Rattle.ledger_rules.specs.Ledger.{Ledger, noLedger, makeRows, makeAnswer, madeLedger, keyOf, consoleOf, isKept, Source, sealCharge, ledgerRows, ledgerAnswer, nextLedger, ledgerOutput, keepCharge, keepRows, keepAnswer, keptLedger}
+use Rattle.ledger_rules.specs.Ledger.{Ledger, noLedger, makeRows, makeAnswer, fresh, madeLedger, keyOf, consoleOf, isKept, Source, sealCharge, ledgerRows, ledgerAnswer, nextLedger, ledgerOutput, keepCharge, keepRows, keepAnswer, keptLedger, carryRows, carryAnswer, withCharge, carriedLedger}
 use Rattle.ledger_rules.specs.Ledger.Source.{given, named}
 
 -- what one sealing is given
@@ -28,33 +28,39 @@ pub record Keeping : Type 0 where
   pub name : ℕ
   pub ad : List ℕ
 
--- a call on a ledger
+-- a call on a ledger; a carrying over is given nothing
 pub data Call : Type 0 where
   seals : Sealing → Call
   keeps : Keeping → Call
+  carries : Call
 
 unfoldable pub answerOn : Ledger → Call → ℕ
 answerOn l (seals s) = ledgerAnswer l (s .nonce) (s .source) (length (s .message)) (length (s .out))
 answerOn l (keeps k) = keepAnswer l (k .name) (length (k .ad))
+answerOn l carries = carryAnswer l
 
 -- the ledger after it
 unfoldable pub after : Ledger → Call → Ledger
 after l (seals s) = nextLedger l (s .nonce) (s .source) (length (s .message)) (length (s .out))
 after l (keeps k) = keptLedger l (k .name) (k .ad)
+after l carries = carriedLedger l
 
--- the output, at entry and at exit; a keeping has none
+-- the output, at entry and at exit; a sealing alone has one
 unfoldable pub outOf : Call → List ℕ
 outOf (seals s) = s .out
 outOf (keeps k) = []
+outOf carries = []
 
 unfoldable pub outputOn : Ledger → Call → List ℕ
 outputOn l (seals s) = ledgerOutput l (s .nonce) (s .source) (s .message) (s .out)
 outputOn l (keeps k) = []
+outputOn l carries = []
 
--- what an accepted call charges
-unfoldable pub chargeOf : Call → ℕ
-chargeOf (seals s) = sealCharge (s .source) (length (s .message))
-chargeOf (keeps k) = keepCharge (length (k .ad))
+-- what an accepted call charges, on a ledger that charges heartbeats or not
+unfoldable pub chargeOf : Bool → Call → ℕ
+chargeOf heartbeats (seals s) = sealCharge heartbeats (s .source) (length (s .message))
+chargeOf heartbeats (keeps k) = keepCharge heartbeats (length (k .ad))
+chargeOf heartbeats carries = 0
 
 -- the ledger after a list of calls
 unfoldable pub run : Ledger → List Call → Ledger
@@ -66,22 +72,48 @@ unfoldable pub accepted : Ledger → List Call → List Call
 accepted l [] = []
 accepted l (c ∷ cs) = cond (eqb (answerOn l c) 0) (c ∷ accepted (after l c) cs) (accepted (after l c) cs)
 
--- the sum of their charges
-unfoldable pub charges : List Call → ℕ
-charges [] = 0
-charges (c ∷ cs) = chargeOf c + charges cs
+-- the sum of their charges: of the older ones, or of the new ones
+unfoldable pub charges : Bool → List Call → ℕ
+charges heartbeats [] = 0
+charges heartbeats (c ∷ cs) = chargeOf heartbeats c + charges heartbeats cs
+
+-- those before the first carrying among them, and those after it
+unfoldable pub beforeCarrying : List Call → List Call
+beforeCarrying [] = []
+beforeCarrying (seals s ∷ cs) = seals s ∷ beforeCarrying cs
+beforeCarrying (keeps k ∷ cs) = keeps k ∷ beforeCarrying cs
+beforeCarrying (carries ∷ cs) = []
+
+unfoldable pub sinceCarrying : List Call → List Call
+sinceCarrying [] = []
+sinceCarrying (seals s ∷ cs) = sinceCarrying cs
+sinceCarrying (keeps k ∷ cs) = sinceCarrying cs
+sinceCarrying (carries ∷ cs) = cs
+
+-- there is none among them
+abbrev pub NoCarrying : List Call → Type 0
+NoCarrying [] = Unit {0}
+NoCarrying (seals s ∷ cs) = NoCarrying cs
+NoCarrying (keeps k ∷ cs) = NoCarrying cs
+NoCarrying (carries ∷ cs) = ⊥
+
+-- what they add to the total of a ledger that accepted them: up to the first carrying by the charge that it has, after it by the new one
+abbrev pub added : Ledger → List Call → ℕ
+added l cs = charges (l .heartbeats) (beforeCarrying cs) + charges true (sinceCarrying cs)
 
 -- the nonces of the sealings among them, with data that are given and by name
 unfoldable pub nonces : List Call → List (List ℕ)
 nonces [] = []
 nonces (seals s ∷ cs) = s .nonce ∷ nonces cs
 nonces (keeps k ∷ cs) = nonces cs
+nonces (carries ∷ cs) = nonces cs
 
 -- the data of the last keeping under a name among them; those that were kept there before, where there is none
 unfoldable pub lastKept : ℕ → Option (List ℕ) → List Call → Option (List ℕ)
 lastKept name before [] = before
 lastKept name before (seals s ∷ cs) = lastKept name before cs
 lastKept name before (keeps k ∷ cs) = lastKept name (cond (eqb (k .name) name) (some (k .ad)) before) cs
+lastKept name before (carries ∷ cs) = lastKept name before cs
 
 unfoldable pub isSome : Option (List ℕ) → Bool
 isSome none = false
@@ -103,7 +135,7 @@ Among N (K ∷ Ns) = (N ≡ K) ⊎ Among N Ns
 
 -- what a list of calls from l counts
 pub record Counted (l : Ledger) (cs : List Call) : Type 0 where
-  pub total : run l cs .total ≡ charges (accepted l cs)
+  pub total : run l cs .total ≡ added l (accepted l cs)
   pub most : run l cs .total ≤ 2 ^ capacity (l .set)
   pub rising : Rising (nonces (accepted l cs))
 
@@ -117,16 +149,15 @@ repeated console zero M out = []
 repeated console (suc n) M out =
     repeated console n M out ++ (seals (record { nonce = nonceOf console (suc n); source = given []; message = M; out = out }) ∷ [])
 
--- set 1 after sixteen messages of 65,536 bytes
-abbrev pub filled : List ℕ → ℕ → List ℕ → List ℕ → Ledger
-filled key console M out = run (madeLedger 1 key console) (repeated console 16 M out)
+-- set 1 after them
+abbrev pub filled : Bool → List ℕ → ℕ → ℕ → List ℕ → List ℕ → Ledger
+filled heartbeats key console n M out = run (fresh heartbeats 1 key console) (repeated console n M out)
 
--- what the example of the capacity is given: a key of set 1, a console, a message of 65,536 bytes and an output with room
-pub record Filling (key : List ℕ) (console : ℕ) (M out : List ℕ) : Type 0 where
-  pub key-length : length key ≡ 16
+-- what the examples of the capacity are given: a console, a message of so many bytes and an output with room
+pub record Filling (console message : ℕ) (M out : List ℕ) : Type 0 where
   pub console-number : console < 65536
-  pub message-length : length M ≡ 65536
-  pub out-room : 65540 ≤ length out
+  pub message-length : length M ≡ message
+  pub out-room : message + 4 ≤ length out
 
 -- what is owed to a sealing by name that is accepted after a list of calls from l: data were kept there, and its answer and output are
 -- those of plain sealing with the data last kept there
@@ -136,28 +167,48 @@ pub record ByName (l : Ledger) (set : ℕ) (key : List ℕ) (cs : List Call) (na
   pub plain : SealCall set key N ad M out 0 (ledgerOutput (run l cs) N (named name) M out)
 
 pub record LedgerTheorems : Type 0 where
-  -- a making, a sealing of either kind and a keeping answer by their rows, on any ledger
+  -- a making, a sealing of either kind, a keeping and a carrying answer by their rows, on any ledger
   pub making : (set : ℕ) (key : List ℕ) → Decides (makeRows set (length key)) (makeAnswer set key)
   pub sealing : (l : Ledger) (N : List ℕ) (S : Source) (message out : ℕ) →
       Decides (ledgerRows l N S message out) (ledgerAnswer l N S message out)
   pub keeping : (l : Ledger) (name ad : ℕ) → Decides (keepRows l name ad) (keepAnswer l name ad)
+  pub carrying : (l : Ledger) → Decides (carryRows l) (carryAnswer l)
   -- a sealing with data that are given never answers 13
   pub not-name : (l : Ledger) (N A : List ℕ) (message out : ℕ) → ledgerAnswer l N (given A) message out ≡ 13 → ⊥
-  -- a refused making has zeros in every field
+  -- a making that is not refused gives a fresh ledger with the new charge; a refused one has zeros in every field
+  pub made : (set : ℕ) (key : List ℕ) (console : ℕ) → makeAnswer set key ≡ 0 → madeLedger set key console ≡ fresh true set key console
   pub unmade : (set : ℕ) (key : List ℕ) (console : ℕ) → (makeAnswer set key ≡ 0 → ⊥) → madeLedger set key console ≡ noLedger
-  -- for every list of calls from a fresh ledger, one just made and not refused
-  pub counted : (set : ℕ) (key : List ℕ) (console : ℕ) (cs : List Call) → makeAnswer set key ≡ 0 → Counted (madeLedger set key console) cs
+  -- for every list of calls from a fresh ledger with either charge
+  pub counted : (b : Bool) (set : ℕ) (key : List ℕ) (console : ℕ) (cs : List Call) → Counted (fresh b set key console) cs
+  -- with the new charge the total is the sum of the new charges; with the older one, where no carrying was accepted, that of the old ones
+  pub newer : (set : ℕ) (key : List ℕ) (console : ℕ) (cs : List Call) →
+      run (fresh true set key console) cs .total ≡ charges true (accepted (fresh true set key console) cs)
+  pub older : (set : ℕ) (key : List ℕ) (console : ℕ) (cs : List Call) → NoCarrying (accepted (fresh false set key console) cs) →
+      run (fresh false set key console) cs .total ≡ charges false (accepted (fresh false set key console) cs)
+  -- with the older one and one carrying among the accepted calls it is that of the old charges before plus the new charges after
+  pub carried : (set : ℕ) (key : List ℕ) (console : ℕ) (cs before later : List Call) → NoCarrying before →
+      accepted (fresh false set key console) cs ≡ before ++ (carries ∷ later) →
+      run (fresh false set key console) cs .total ≡ charges false before + charges true later
+  -- a carrying, on any ledger, changes nothing but the charge; where it is accepted, that is then the new one
+  pub only-charge : (l : Ledger) → withCharge (l .heartbeats) (after l carries) ≡ l
+  pub new-charge : (l : Ledger) → carryAnswer l ≡ 0 → after l carries .heartbeats ≡ true
+  -- the new charge stays along every list of calls, and where a ledger has it a carrying changes nothing
+  pub stays : (l : Ledger) (cs : List Call) → l .heartbeats ≡ true → run l cs .heartbeats ≡ true
+  pub same : (l : Ledger) → l .heartbeats ≡ true → after l carries ≡ l
+  -- so carrying again changes nothing, nor does carrying what a making gave
+  pub again : (l : Ledger) → after (after l carries) carries ≡ after l carries
+  pub made-carried : (set : ℕ) (key : List ℕ) (console : ℕ) → after (madeLedger set key console) carries ≡ madeLedger set key console
   -- an accepted sealing with data that are given, on any ledger, has the answer and the output of plain sealing under the ledger's set and
   -- key; in a ledger value the key has 32 bytes
   pub plain : (l : Ledger) (N A M out : List ℕ) → length (l .key) ≡ 32 → ledgerAnswer l N (given A) (length M) (length out) ≡ 0 →
       SealCall (l .set) (keyOf l) N A M out 0 (ledgerOutput l N (given A) M out)
   -- after every list of calls from a fresh ledger, an accepted sealing by name has those of plain sealing with the data last kept there
-  pub by-name : (set : ℕ) (key : List ℕ) (console : ℕ) (cs : List Call) (name : ℕ) (N M out : List ℕ) → makeAnswer set key ≡ 0 →
-      ledgerAnswer (run (madeLedger set key console) cs) N (named name) (length M) (length out) ≡ 0 →
-      ByName (madeLedger set key console) set key cs name N M out
+  pub by-name : (b : Bool) (set : ℕ) (key : List ℕ) (console : ℕ) (cs : List Call) (name : ℕ) (N M out : List ℕ) →
+      makeAnswer set key ≡ 0 → ledgerAnswer (run (fresh b set key console) cs) N (named name) (length M) (length out) ≡ 0 →
+      ByName (fresh b set key console) set key cs name N M out
   -- and in a sealing a name passes check 13 exactly where an accepted keeping was under it
-  pub is-kept : (set : ℕ) (key : List ℕ) (console : ℕ) (cs : List Call) (name : ℕ) → makeAnswer set key ≡ 0 →
-      isKept (run (madeLedger set key console) cs) name ≡ isSome (lastKept name none (accepted (madeLedger set key console) cs))
+  pub is-kept : (b : Bool) (set : ℕ) (key : List ℕ) (console : ℕ) (cs : List Call) (name : ℕ) →
+      isKept (run (fresh b set key console) cs) name ≡ isSome (lastKept name none (accepted (fresh b set key console) cs))
   -- a keeping, on any ledger, leaves the last nonce
   pub no-nonce : (l : Ledger) (k : Keeping) → (after l (keeps k) .begun ≡ l .begun) × (after l (keeps k) .last ≡ l .last)
   -- every refused call, on any ledger, changes neither the ledger nor the output
@@ -168,15 +219,23 @@ pub record LedgerTheorems : Type 0 where
   pub apart : (k l : Ledger) (cs ds : List Call) (N : List ℕ) → (k .console ≡ l .console → ⊥) →
       Among N (nonces (accepted k cs)) → Among N (nonces (accepted l ds)) → ⊥
   -- a fresh ledger never answers 9: it takes any nonce of 12 bytes that begins with its number
-  pub not-stale : (set : ℕ) (key : List ℕ) (console : ℕ) (N : List ℕ) (S : Source) (message out : ℕ) →
-      ledgerAnswer (madeLedger set key console) N S message out ≡ 9 → ⊥
-  pub takes : (set : ℕ) (key : List ℕ) (console : ℕ) (N A : List ℕ) (message out : ℕ) → makeAnswer set key ≡ 0 →
+  pub not-stale : (b : Bool) (set : ℕ) (key : List ℕ) (console : ℕ) (N : List ℕ) (S : Source) (message out : ℕ) →
+      ledgerAnswer (fresh b set key console) N S message out ≡ 9 → ⊥
+  pub takes : (b : Bool) (set : ℕ) (key : List ℕ) (console : ℕ) (N A : List ℕ) (message out : ℕ) → makeAnswer set key ≡ 0 →
       length N ≡ 12 → consoleOf N ≡ console → length A ≤ 4096 → message ≤ 65536 → message + setTag set ≤ out →
-      ledgerAnswer (madeLedger set key console) N (given A) message out ≡ 0
-  -- on set 1 sixteen messages of 65,536 bytes fill the capacity
-  pub full : (key : List ℕ) (console : ℕ) (M out : List ℕ) → Filling key console M out → filled key console M out .total ≡ 65536
-  -- then one block more is refused, and a charge of 0 is accepted
-  pub over : (key : List ℕ) (console : ℕ) (M out : List ℕ) (room : ℕ) → Filling key console M out → 5 ≤ room →
-      ledgerAnswer (filled key console M out) (nonceOf console 17) (given []) 1 room ≡ 10
-  pub nothing : (key : List ℕ) (console : ℕ) (M out : List ℕ) (room : ℕ) → Filling key console M out → 4 ≤ room →
-      ledgerAnswer (filled key console M out) (nonceOf console 17) (given []) 0 room ≡ 0
+      ledgerAnswer (fresh b set key console) N (given A) message out ≡ 0
+  -- on set 1 sixteen messages of 65,536 bytes fill the capacity, with either charge
+  pub full : (b : Bool) (key : List ℕ) (console : ℕ) (M out : List ℕ) → Filling console 65536 M out →
+      filled b key console 16 M out .total ≡ 65536
+  -- then one block more is refused; an empty sealing is accepted with the older charge and refused with the new one
+  pub over : (b : Bool) (key : List ℕ) (console : ℕ) (M out : List ℕ) (room : ℕ) → Filling console 65536 M out → 5 ≤ room →
+      ledgerAnswer (filled b key console 16 M out) (nonceOf console 17) (given []) 1 room ≡ 10
+  pub nothing : (key : List ℕ) (console : ℕ) (M out : List ℕ) (room : ℕ) → Filling console 65536 M out → 4 ≤ room →
+      ledgerAnswer (filled false key console 16 M out) (nonceOf console 17) (given []) 0 room ≡ 0
+  pub heartbeat : (key : List ℕ) (console : ℕ) (M out : List ℕ) (room : ℕ) → Filling console 65536 M out → 4 ≤ room →
+      ledgerAnswer (filled true key console 16 M out) (nonceOf console 17) (given []) 0 room ≡ 10
+  -- with the new charge 65,536 empty sealings fill it, and the next is refused
+  pub heartbeats-fill : (key : List ℕ) (console : ℕ) (M out : List ℕ) → Filling console 0 M out →
+      filled true key console 65536 M out .total ≡ 65536
+  pub heartbeats-end : (key : List ℕ) (console : ℕ) (M out : List ℕ) (room : ℕ) → Filling console 0 M out → 4 ≤ room →
+      ledgerAnswer (filled true key console 65536 M out) (nonceOf console 65537) (given []) 0 room ≡ 10

@@ -28,6 +28,8 @@ pub fn print_call(kind: u8) {
         io::write_all(STDOUT_FILENO, b"keep");
     } else if kind == 6 {
         io::write_all(STDOUT_FILENO, b"name");
+    } else if kind == 7 {
+        io::write_all(STDOUT_FILENO, b"carry");
     } else {
         io::write_all(STDOUT_FILENO, b"seal");
     }
@@ -96,6 +98,7 @@ pub fn print_ledger(l: Ledger) {
     print_bytes(&key);
     print_number(l.console as u64);
     print_number(l.total);
+    print_number(l.heartbeats as u64);
     print_number(l.begun as u64);
     print_bytes(&last);
     print_headings(l);

@@ -5,8 +5,8 @@
 // A record has 64 bytes, with numbers big-endian; bytes that are not named are not looked at.
 //   make: byte 0 is 0; 1..5 the set, 5..7 the console, 7 the key's length, 8.. the key
 //   put:  byte 0 is 1; 1..5 the set, 5..37 the key, 37..39 the console, 39..47 the total, 47 whether there
-//         is a last nonce, 48..60 that nonce: the ledger is these values, whatever they are, with nothing
-//         kept under any name
+//         is a last nonce, 48..60 that nonce, 60 whether heartbeats are charged: the ledger is these values,
+//         whatever they are, with nothing kept under any name
 //   seal: byte 0 is 2; 1 the nonce's length, 2..5, 5..8 and 8..11 the lengths of data, message and output,
 //         11 and 12 the seeds of data and message, 13.. the nonce
 //   lent: byte 0 is 3; the rest as for seal. The ledger is lent to the call, which changes it in place
@@ -15,6 +15,7 @@
 //   keep: byte 0 is 5; 1..5 the name, 5..8 the data's length, 8 their seed
 //   name: byte 0 is 6; 1..5 the name, 5 the nonce's length, 6..9 and 9..12 the lengths of message and
 //         output, 12 the message's seed, 13.. the nonce
+//   carry: byte 0 is 7
 //
 // Data, message and what the output holds before a call are made from their seeds by `fill`; the output's
 // seed is 165. The files stdin and stdout beside src/ are what tests/ledger_model writes, the
@@ -93,6 +94,7 @@ fn hand_made(r: [u8; 64]) -> Ledger {
         key: key,
         console: short_number(r[37], r[38]),
         total: long_number(high, low),
+        heartbeats: r[60] != 0,
         begun: r[47] != 0,
         last: last,
         headings: [NOTHING; 8],
@@ -151,6 +153,14 @@ fn keep(l: Ledger, r: [u8; 64], ad: &mut [u8]) -> Ledger {
 fn keep_in(l: Ledger, r: [u8; 64], ad: &mut [u8]) -> Ledger {
     let h = least(length(r[5], r[6], r[7]), ad.len());
     keep(l, r, &mut ad[..h])
+}
+
+fn carry(l: Ledger) -> Ledger {
+    let s = l.carry_over();
+    print_outcome(7, s);
+    show::line_end();
+    let next = s.ledger;
+    next
 }
 
 // Lends its ledger, and gives back what the call by value does.
@@ -232,6 +242,9 @@ fn step(l: Ledger, r: [u8; 64], ad: &mut [u8], message: &mut [u8], out: &mut [u8
     }
     if r[0] == 6 {
         return seal_named_in(l, r, message, out);
+    }
+    if r[0] == 7 {
+        return carry(l);
     }
     seal_in(l, r, ad, message, out)
 }
