@@ -1,7 +1,7 @@
 -- What a making, a sealing of either kind, a keeping and a carrying on a ledger answer, and what they leave.
 -- Assumes nothing.
 use mathlib.Core.Path.{_≡_, refl, sym, ap, ap₂, _∙_}
-use mathlib.Core.Bool.{Bool, true, false, cond, false≢true}
+use mathlib.Core.Bool.{Bool, true, false, false≢true}
 use mathlib.Core.List.{List, [], _∷_, _++_}
 use Prim.Native.Nat.{ℕ, _+_, _^_, _<_, _≤_}
 use native.Mathlib.Omega.{arith}
@@ -268,11 +268,11 @@ module _ (l : Ledger) (name : ℕ) (A : List ℕ) where
   -- either way it leaves the last nonce
   pub kept-nonce : (keptLedger l name A .begun ≡ l .begun) × (keptLedger l name A .last ≡ l .last)
   unfolding keptLedger
-  kept-nonce = go (eqb (keepAnswer l name (length A)) 0)
+  kept-nonce = go (eqb (keepAnswer l name (length A)) 0) refl
     where
-      go : (x : Bool) → let l′ = cond x (keeping l name (sumOf l A) (keepCharge (l .heartbeats) (length A))) l in (l′ .begun ≡ l .begun) × (l′ .last ≡ l .last)
-      go true = (refl, refl)
-      go false = (refl, refl)
+      go : (x : Bool) → eqb (keepAnswer l name (length A)) 0 ≡ x → (keptLedger l name A .begun ≡ l .begun) × (keptLedger l name A .last ≡ l .last)
+      go true e = rw e (refl, refl)
+      go false e = rw e (refl, refl)
 
 -- ---- carrying over
 

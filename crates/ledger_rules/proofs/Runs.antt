@@ -17,7 +17,7 @@ use Rattle.cba_mode.specs.Sets.{capacity}
 use Rattle.ledger_rules.specs.Ledger.{Heading, Ledger, keyOf, consoleOf, stale, headingAt, isName, charged, sumOf, keeping, withCharge}
 use Rattle.ledger_rules.specs.Runs.{Call, Sealing, Keeping, answerOn, after, outOf, outputOn, chargeOf, run, accepted, charges, beforeCarrying, sinceCarrying, NoCarrying, added, nonces, lastKept, RisingFrom, Rising, Among}
 use Rattle.ledger_rules.specs.Runs.Call.{seals, keeps, carries}
-use Rattle.ledger_rules.proofs.LedgerLaws.{total-within, ledger-accepted, ledger-refused, next-accepted, keep-accepted, kept-refused, kept-accepted, kept-nonce, carried-refused, carried-accepted}
+use Rattle.ledger_rules.proofs.LedgerLaws.{total-within, ledger-accepted, ledger-refused, next-accepted, keep-accepted, kept-refused, kept-accepted, carried-refused, carried-accepted}
 
 -- ---- sums of charges
 
@@ -45,40 +45,17 @@ after-refused l (seals s) n = let r = ledger-refused l (s .nonce) (s .source) (s
 after-refused l (keeps k) n = (kept-refused l (k .name) (k .ad) n, refl)
 after-refused l carries n = (carried-refused l n, refl)
 
-after-sealed : (l : Ledger) (s : Sealing) → answerOn l (seals s) ≡ 0 → after l (seals s) ≡ charged l (s .nonce) (chargeOf (l .heartbeats) (seals s))
+-- the ledger after an accepted one
+abbrev done : Ledger → Call → Ledger
+done l (seals s) = charged l (s .nonce) (chargeOf (l .heartbeats) (seals s))
+done l (keeps k) = keeping l (k .name) (sumOf l (k .ad)) (chargeOf (l .heartbeats) (keeps k))
+done l carries = withCharge true l
+
+after-accepted : (l : Ledger) (c : Call) → answerOn l c ≡ 0 → after l c ≡ done l c
 unfolding answerOn after chargeOf
-after-sealed l s e = next-accepted l (s .nonce) (s .source) (length (s .message)) (length (s .out)) e
-
-after-kept : (l : Ledger) (k : Keeping) → answerOn l (keeps k) ≡ 0 → after l (keeps k) ≡ keeping l (k .name) (sumOf l (k .ad)) (chargeOf (l .heartbeats) (keeps k))
-unfolding answerOn after chargeOf
-after-kept l k e = kept-accepted l (k .name) (k .ad) e
-
-after-carried : (l : Ledger) → answerOn l carries ≡ 0 → after l carries ≡ withCharge true l
-unfolding answerOn after
-after-carried l e = carried-accepted l e
-
--- what an accepted call does to the ledger, which is m after it
-record Adds (l m : Ledger) (c : Call) : Type 0 where
-  set-kept : m .set ≡ l .set
-  key-kept : m .key ≡ l .key
-  console-kept : m .console ≡ l .console
-  charge-kept : l .heartbeats ≡ true → m .heartbeats ≡ true
-  owes : (cs : List Call) → m .total + added m cs ≡ l .total + added l (c ∷ cs)
-  within : l .total ≤ 2 ^ capacity (l .set) → m .total ≤ 2 ^ capacity (l .set)
-
-adds : (l : Ledger) (c : Call) → answerOn l c ≡ 0 → Adds l (after l c) c
-unfolding answerOn chargeOf charges beforeCarrying sinceCarrying
-adds l (seals s) e =
-    let w = total-within l _ (ledger-accepted l (s .nonce) (s .source) (length (s .message)) (length (s .out)) e .not-spent) in
-    subst (λ (m : Ledger). Adds l m (seals s)) (sym (after-sealed l s e))
-    (record { set-kept = refl; key-kept = refl; console-kept = refl; charge-kept = λ h. h; owes = λ cs. omega arith; within = λ h. w })
-adds l (keeps k) e =
-    let w = total-within l _ (keep-accepted l (k .name) (length (k .ad)) e .not-spent) in
-    subst (λ (m : Ledger). Adds l m (keeps k)) (sym (after-kept l k e))
-    (record { set-kept = refl; key-kept = refl; console-kept = refl; charge-kept = λ h. h; owes = λ cs. omega arith; within = λ h. w })
-adds l carries e =
-    subst (λ (m : Ledger). Adds l m carries) (sym (after-carried l e))
-    (record { set-kept = refl; key-kept = refl; console-kept = refl; charge-kept = λ h. refl; owes = λ cs. omega (arith, in-two true cs); within = λ h. h })
+after-accepted l (seals s) e = next-accepted l (s .nonce) (s .source) (length (s .message)) (length (s .out)) e
+after-accepted l (keeps k) e = kept-accepted l (k .name) (k .ad) e
+after-accepted l carries e = carried-accepted l e
 
 -- an accepted nonce is above the last
 above-last : (l : Ledger) (s : Sealing) → answerOn l (seals s) ≡ 0 → l .begun ≡ true → number (l .last) < number (s .nonce)
@@ -95,13 +72,15 @@ begins-with l s e = ledger-accepted l (s .nonce) (s .source) (length (s .message
 -- ---- a list of them: what holds of a ledger, the one after the list and the accepted calls, where it holds of none and of one more
 
 module _ (P : Ledger → Ledger → List Call → Type 0) (start : (l : Ledger) → P l l [])
-    (more : (l m : Ledger) (c : Call) (cs : List Call) → answerOn l c ≡ 0 → P (after l c) m cs → P l m (c ∷ cs)) where
+    (more : (l m : Ledger) (c : Call) (cs : List Call) → answerOn l c ≡ 0 → P (done l c) m cs → P l m (c ∷ cs)) where
   on-answer : (l : Ledger) (c : Call) (cs : List Call) → ((m : Ledger) → P m (run m cs) (accepted m cs)) → P l (run l (c ∷ cs)) (accepted l (c ∷ cs))
   unfolding run accepted
   on-answer l c cs h = go (eqb (answerOn l c) 0) refl
     where
       go : (x : Bool) → eqb (answerOn l c) 0 ≡ x → P l (run (after l c) cs) (cond (eqb (answerOn l c) 0) (c ∷ accepted (after l c) cs) (accepted (after l c) cs))
-      go true e = rw e (more l (run (after l c) cs) c (accepted (after l c) cs) (eqb-true (answerOn l c) 0 e) (h (after l c)))
+      go true e =
+          let z = eqb-true (answerOn l c) 0 e in
+          rw (e, after-accepted l c z) (more l (run (done l c) cs) c (accepted (done l c) cs) z (h (done l c)))
       go false e = rw (e, after-refused l c (eqb-false (answerOn l c) 0 e) .0) (h l)
 
   by-calls : (cs : List Call) (l : Ledger) → P l (run l cs) (accepted l cs)
@@ -118,15 +97,21 @@ pub record Sums (l m : Ledger) (cs : List Call) : Type 0 where
   pub sum : m .total ≡ l .total + added l cs
   pub within : l .total ≤ 2 ^ capacity (l .set) → m .total ≤ 2 ^ capacity (l .set)
 
-one-sum : (l m : Ledger) (c : Call) (cs : List Call) → answerOn l c ≡ 0 → Sums (after l c) m cs → Sums l m (c ∷ cs)
-one-sum l m c cs e h =
-    let d = adds l c e in
+one-sum : (l m : Ledger) (c : Call) (cs : List Call) → answerOn l c ≡ 0 → Sums (done l c) m cs → Sums l m (c ∷ cs)
+unfolding answerOn chargeOf charges beforeCarrying sinceCarrying
+one-sum l m (seals s) cs e h =
+    let w = total-within l _ (ledger-accepted l (s .nonce) (s .source) (length (s .message)) (length (s .out)) e .not-spent) in
+    record { set-stays = h .set-stays; key-stays = h .key-stays; charge-stays = h .charge-stays; sum = h .sum ∙ omega arith; within = λ k. h .within w }
+one-sum l m (keeps k) cs e h =
+    let w = total-within l _ (keep-accepted l (k .name) (length (k .ad)) e .not-spent) in
+    record { set-stays = h .set-stays; key-stays = h .key-stays; charge-stays = h .charge-stays; sum = h .sum ∙ omega arith; within = λ k. h .within w }
+one-sum l m carries cs e h =
     record {
-      set-stays = h .set-stays ∙ d .set-kept;
-      key-stays = h .key-stays ∙ d .key-kept;
-      charge-stays = λ b. h .charge-stays (d .charge-kept b);
-      sum = h .sum ∙ d .owes cs;
-      within = λ k. subst (λ (x : ℕ). after l c .total ≤ 2 ^ capacity x → m .total ≤ 2 ^ capacity x) (d .set-kept) (h .within) (d .within k);
+      set-stays = h .set-stays;
+      key-stays = h .key-stays;
+      charge-stays = λ b. h .charge-stays refl;
+      sum = h .sum ∙ omega (arith, in-two true cs);
+      within = h .within;
     }
 
 pub sums : (cs : List Call) (l : Ledger) → Sums l (run l cs) (accepted l cs)
@@ -140,27 +125,16 @@ pub record Rises (l m : Ledger) (cs : List Call) : Type 0 where
   pub rise-new : Rising (nonces cs)
   pub begin : (N : List ℕ) → Among N (nonces cs) → consoleOf N ≡ l .console
 
-one-rise : (l m : Ledger) (c : Call) (cs : List Call) → answerOn l c ≡ 0 → Rises (after l c) m cs → Rises l m (c ∷ cs)
-unfolding nonces after
+one-rise : (l m : Ledger) (c : Call) (cs : List Call) → answerOn l c ≡ 0 → Rises (done l c) m cs → Rises l m (c ∷ cs)
+unfolding nonces
 one-rise l m (seals s) cs e h =
-    let n = after-sealed l s e in
-    let up : RisingFrom (number (s .nonce)) (nonces cs) = subst (λ (N : List ℕ). RisingFrom (number N) (nonces cs)) (ap (λ (x : Ledger). x .last) n) (h .rise (ap (λ (x : Ledger). x .begun) n)) in
     record {
-      rise = λ b. (above-last l s e b, up);
-      rise-new = up;
-      begin = λ N i.
-          ⊎-elim (λ (x : N ≡ s .nonce). ap consoleOf x ∙ begins-with l s e) (λ (x : Among N (nonces cs)). h .begin N x ∙ adds l (seals s) e .console-kept) i;
+      rise = λ b. (above-last l s e b, h .rise refl);
+      rise-new = h .rise refl;
+      begin = λ N i. ⊎-elim (λ (x : N ≡ s .nonce). ap consoleOf x ∙ begins-with l s e) (h .begin N) i;
     }
-one-rise l m (keeps k) cs e h =
-    let n = kept-nonce l (k .name) (k .ad) in
-    record {
-      rise = λ b. subst (λ (N : List ℕ). RisingFrom (number N) (nonces cs)) (n .1) (h .rise (n .0 ∙ b));
-      rise-new = h .rise-new;
-      begin = λ N i. h .begin N i ∙ adds l (keeps k) e .console-kept;
-    }
-one-rise l m carries cs e h =
-    let n = after-carried l e in
-    subst (λ (x : Ledger). Rises x m cs → Rises l m (carries ∷ cs)) (sym n) (λ r. record { rise = r .rise; rise-new = r .rise-new; begin = r .begin }) h
+one-rise l m (keeps k) cs e h = record { rise = h .rise; rise-new = h .rise-new; begin = h .begin }
+one-rise l m carries cs e h = record { rise = h .rise; rise-new = h .rise-new; begin = h .begin }
 
 pub rises : (cs : List Call) (l : Ledger) → Rises l (run l cs) (accepted l cs)
 unfolding nonces
@@ -182,35 +156,28 @@ module _ (name : ℕ) where
   Names l m cs = (o : Option (List ℕ)) → length (l .headings) ≡ 8 → On l o → On m (lastKept name o cs)
 
   one-kept : (l : Ledger) (k : Keeping) (o : Option (List ℕ)) → answerOn l (keeps k) ≡ 0 → length (l .headings) ≡ 8 → On l o →
-      On (keeping l (k .name) (sumOf l (k .ad)) (chargeOf (l .heartbeats) (keeps k))) (cond (eqb (k .name) name) (some (k .ad)) o)
+      On (done l (keeps k)) (cond (eqb (k .name) name) (some (k .ad)) o)
   unfolding answerOn headingAt isName sumOf keyOf
   one-kept l k o e n u = go (eqb (k .name) name) refl
     where
-      go : (x : Bool) → eqb (k .name) name ≡ x → On (keeping l (k .name) (sumOf l (k .ad)) (chargeOf (l .heartbeats) (keeps k))) (cond (eqb (k .name) name) (some (k .ad)) o)
+      go : (x : Bool) → eqb (k .name) name ≡ x → On (done l (keeps k)) (cond (eqb (k .name) name) (some (k .ad)) o)
       go true f =
           let i : k .name ≡ name = eqb-true (k .name) name f in
           let a = keep-accepted l (k .name) (length (k .ad)) e in
           let low = ltb-true (k .name) 8 (a .is-name) in
           let same = getD-set-same (l .headings) (k .name) (record { kept = true; sum = sumOf l (k .ad) }) (record { kept = false; sum = [] }) (omega (arith, n, low)) in
           rw f
-          (subst (λ (j : ℕ). Under (isName j) (headingAt (keeping l (k .name) (sumOf l (k .ad)) (chargeOf (l .heartbeats) (keeps k))) j) (sumOf l) (some (k .ad))) i
+          (subst (λ (j : ℕ). Under (isName j) (headingAt (done l (keeps k)) j) (sumOf l) (some (k .ad))) i
           (subst (λ (x : Heading). Under (isName (k .name)) x (sumOf l) (some (k .ad))) (sym same) (ap (λ (b : Bool). b && true) (a .is-name), refl, a .data-limit)))
       go false f =
           let other = getD-set-other (l .headings) (k .name) name (record { kept = true; sum = sumOf l (k .ad) }) (record { kept = false; sum = [] }) (λ i. eqb-false (k .name) name f (sym i)) in
           rw f (subst (λ (x : Heading). Under (isName name) x (sumOf l) o) (sym other) u)
 
-  one-name : (l m : Ledger) (c : Call) (cs : List Call) → answerOn l c ≡ 0 → Names (after l c) m cs → Names l m (c ∷ cs)
+  one-name : (l m : Ledger) (c : Call) (cs : List Call) → answerOn l c ≡ 0 → Names (done l c) m cs → Names l m (c ∷ cs)
   unfolding lastKept headingAt sumOf keyOf
-  one-name l m (seals s) cs e h o n u =
-      let w = after-sealed l s e in
-      h o (subst (λ (x : Ledger). length (x .headings) ≡ 8) (sym w) n) (subst (λ (x : Ledger). On x o) (sym w) u)
-  one-name l m (keeps k) cs e h o n u =
-      let w = after-kept l k e in
-      h _ (subst (λ (x : Ledger). length (x .headings) ≡ 8) (sym w) (length-set (l .headings) (k .name) _ ∙ n))
-      (subst (λ (x : Ledger). On x (cond (eqb (k .name) name) (some (k .ad)) o)) (sym w) (one-kept l k o e n u))
-  one-name l m carries cs e h o n u =
-      let w = after-carried l e in
-      h o (subst (λ (x : Ledger). length (x .headings) ≡ 8) (sym w) n) (subst (λ (x : Ledger). On x o) (sym w) u)
+  one-name l m (seals s) cs e h o n u = h o n u
+  one-name l m (keeps k) cs e h o n u = h _ (length-set (l .headings) (k .name) _ ∙ n) (one-kept l k o e n u)
+  one-name l m carries cs e h o n u = h o n u
 
   pub names : (cs : List Call) (l : Ledger) → Names l (run l cs) (accepted l cs)
   unfolding lastKept
