@@ -55,12 +55,10 @@ pub struct Case {
     pub data: usize,
 }
 
-impl Case {
-    /// Calls in one sample: enough that reading the clock costs nothing beside them, and few enough that most
-    /// samples end before another process takes the core.
-    pub fn calls(&self) -> u32 {
-        (4096 / (self.size + 64)).max(1) as u32
-    }
+/// Calls in one sample, each of so many bytes: enough that reading the clock costs nothing beside them, and few
+/// enough that most samples end before another process takes the core.
+pub fn calls(size: usize) -> u32 {
+    (4096 / (size + 64)).max(1) as u32
 }
 
 /// A row of the table is two cases, sealing and then opening.

@@ -2,8 +2,9 @@
 
 use crate::candidates::{Call, Candidate, Inputs, NETTLE, OCB, TABLES, US};
 use crate::cases::{DATA, SETS};
+use crate::marks::{self, MAKERS};
 use crate::random::Random;
-use crate::{job, nettle, ocb};
+use crate::{job, nettle, ocb, us};
 
 /// Hardware is off in both libraries, so that tables are compared with tables.
 pub fn is_plain() {
@@ -73,10 +74,34 @@ fn refuses(candidate: &Candidate) {
     }
 }
 
+/// All make one mark, libgcrypt's, of logs that end with a block and within one.
+fn same_marks() {
+    for bits in [128, 256] {
+        for size in (0..=64).chain([1000, 65536]) {
+            for maker in &MAKERS {
+                let mut job = marks::job_for(maker, bits, size).expect("a key's length");
+                job.run(1);
+                job.check();
+            }
+        }
+    }
+}
+
+/// A mark is looked at: libgcrypt's passes, and with a changed byte it does not.
+fn refuses_a_mark() {
+    let (inputs, log, mut mark) = marks::marked(128, 100).expect("a key's length");
+    let passes = |mark: &[u8]| us::check_mark(&inputs, &log, mark);
+    assert!(passes(&mark), "a true mark is refused");
+    mark[15] ^= 1;
+    assert!(!passes(&mark), "a changed mark passes");
+}
+
 pub fn run() {
     is_plain();
     standard();
     same_cipher();
     refuses(&US);
     refuses(&OCB);
+    same_marks();
+    refuses_a_mark();
 }

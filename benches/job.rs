@@ -13,7 +13,7 @@ pub struct Job {
     expected: Vec<u8>,
 }
 
-fn bytes(random: &mut Random, n: usize) -> Vec<u8> {
+pub fn bytes(random: &mut Random, n: usize) -> Vec<u8> {
     (0..n).map(|_| random.number() as u8).collect()
 }
 
@@ -43,6 +43,11 @@ impl Job {
             Act::Seal => (candidate.seal, message, sealed),
             Act::Open => (candidate.open, sealed, message),
         };
+        Job::held_to(expected, call, inputs, text)
+    }
+
+    /// The call must write what is expected.
+    pub fn held_to(expected: Vec<u8>, call: Call, inputs: Inputs, text: Vec<u8>) -> Job {
         let out = vec![0; expected.len()];
         Job {
             inputs,

@@ -1,9 +1,10 @@
-//! Measures sealing and opening; ./bench builds and starts it.
+//! Measures sealing, opening and marks; ./bench builds and starts it.
 //!
-//!     bench time PLAN                                    the table of times
+//!     bench time PLAN                                    the tables of times
 //!     bench hardware PLAN                                the second process of `time`
 //!     bench calls CANDIDATE ACT SET SIZE DATA COUNT      so many calls, for valgrind to count
 //!     bench script KIND SET DATA accepted|refused COUNT  the same as records for crates/ledger_script
+//!     bench marks MAKER BITS SIZE COUNT                  so many marks, for valgrind to count
 
 #[path = "../tests/shared/random.rs"]
 mod random;
@@ -12,7 +13,10 @@ mod boxes;
 mod candidates;
 mod cases;
 mod checks;
+mod cmac;
+mod contest;
 mod job;
+mod marks;
 mod nettle;
 mod ocb;
 mod report;
@@ -25,6 +29,7 @@ mod worker;
 use candidates::CANDIDATES;
 use cases::{Case, Plan, Set, ACTS, PLANS, SETS};
 use job::Job;
+use marks::MAKERS;
 use std::io::Write;
 
 fn plan(name: &str) -> Option<&'static Plan> {
@@ -37,6 +42,7 @@ fn time(name: &str) -> Option<()> {
     checks::run();
     let (cells, features) = timing::measure(plan);
     report::print(plan, &cells, &features);
+    report::print_marks(&marks::measure(plan));
     Some(())
 }
 
@@ -68,6 +74,16 @@ fn calls([candidate, act, number, size, data, count]: [&str; 6]) -> Option<()> {
     Some(())
 }
 
+fn marks([maker, bits, size, count]: [&str; 4]) -> Option<()> {
+    let maker = MAKERS.iter().find(|m| m.name == maker)?;
+    ocb::start(false);
+    checks::is_plain();
+    let mut job = marks::job_for(maker, bits.parse().ok()?, size.parse().ok()?)?;
+    job.run(count.parse().ok()?);
+    job.check();
+    Some(())
+}
+
 fn script([kind, number, data, answer, count]: [&str; 5]) -> Option<()> {
     let accepted = match answer {
         "accepted" => true,
@@ -86,6 +102,7 @@ fn main() {
         ["time", plan] => time(plan),
         ["hardware", plan] => hardware(plan),
         ["calls", a, b, c, d, e, f] => calls([a, b, c, d, e, f]),
+        ["marks", a, b, c, d] => marks([a, b, c, d]),
         ["script", a, b, c, d, e] => script([a, b, c, d, e]),
         _ => None,
     };

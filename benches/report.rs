@@ -1,6 +1,7 @@
-//! The table of times.
+//! The tables of times.
 
 use crate::cases::Plan;
+use crate::marks::{Row, MAKERS};
 use crate::timing::{Cell, COLUMNS};
 use crate::{nettle, ocb};
 
@@ -63,5 +64,33 @@ pub fn print(plan: &Plan, cells: &[Cell], features: &str) {
             [&case.set.number.to_string(), &case.size.to_string()],
             &words,
         );
+    }
+}
+
+fn mark_line(columns: &[String]) {
+    let columns: String = columns.iter().map(|c| format!(" {c:>9} |")).collect();
+    println!("|{columns}");
+}
+
+/// Nanoseconds a byte of each maker, and us beside each of the others.
+fn mark_columns(row: &Row) -> Vec<String> {
+    let (times, bytes) = (row.times(), row.size as f64);
+    let mut words = vec![row.bits.to_string(), row.size.to_string()];
+    words.extend(times.iter().map(|time| shown(time / bytes)));
+    let beside = |time| format!("{:.2}", times[0] / time);
+    words.extend(times[1..].iter().map(beside));
+    words
+}
+
+pub fn print_marks(rows: &[Row]) {
+    println!("\nMarks of 16 bytes by AES-CMAC; libgcrypt and nettle without hardware.");
+    println!("Nanoseconds a byte of the log; rounds and samples as above.\n");
+    let mut words = vec!["AES".to_string(), "bytes".to_string()];
+    words.extend(MAKERS.iter().map(|maker| maker.name.to_string()));
+    words.extend(MAKERS[1..].iter().map(|maker| format!("us/{}", maker.name)));
+    mark_line(&words);
+    println!("|{}", "---:|".repeat(words.len()));
+    for row in rows {
+        mark_line(&mark_columns(row));
     }
 }

@@ -2,7 +2,8 @@
 //! elsewhere falls on all alike.
 
 use crate::candidates::CANDIDATES;
-use crate::cases::{cases, Case, Plan};
+use crate::cases::{calls, cases, Case, Plan};
+use crate::contest::{quiet_median, Contest};
 use crate::job::Job;
 use crate::worker::Worker;
 
@@ -11,44 +12,31 @@ pub const COLUMNS: usize = CANDIDATES.len() + 1;
 
 pub struct Cell {
     pub case: Case,
-    jobs: Vec<Job>,
-    samples: [Vec<f64>; COLUMNS],
+    contest: Contest,
+    hardware: Vec<f64>,
 }
 
 impl Cell {
     fn new(case: Case) -> Cell {
         let jobs = CANDIDATES.iter().map(|c| Job::new(c, &case)).collect();
-        let samples = Default::default();
         Cell {
             case,
-            jobs,
-            samples,
+            contest: Contest::new(jobs, calls(case.size)),
+            hardware: Vec::new(),
         }
     }
 
     fn round(&mut self, number: usize, worker: &mut Worker) {
-        for (job, samples) in self.jobs.iter_mut().zip(&mut self.samples) {
-            samples.push(job.sample(self.case.calls()));
-            job.check();
-        }
-        self.samples[COLUMNS - 1].push(worker.sample(number));
+        self.contest.round();
+        self.hardware.push(worker.sample(number));
     }
 
-    /// Nanoseconds a call of each candidate.
-    pub fn times(&self) -> [f64; COLUMNS] {
-        let mut times = [0.0; COLUMNS];
-        for (time, samples) in times.iter_mut().zip(&self.samples) {
-            *time = quiet_median(samples);
-        }
+    /// Nanoseconds a call of each, in the order of the columns.
+    pub fn times(&self) -> Vec<f64> {
+        let mut times = self.contest.times();
+        times.push(quiet_median(&self.hardware));
         times
     }
-}
-
-/// The median of the faster half, the quiet samples: the slower half is where other work on the machine is.
-fn quiet_median(samples: &[f64]) -> f64 {
-    let mut sorted = samples.to_vec();
-    sorted.sort_by(|a, b| a.partial_cmp(b).expect("numbers"));
-    sorted[sorted.len() / 4]
 }
 
 /// All samples, and the hardware features of the second process.

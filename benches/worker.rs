@@ -2,7 +2,7 @@
 //! nanoseconds of a call, so that its samples fall between those of the first.
 
 use crate::candidates::OCB;
-use crate::cases::{cases, Plan};
+use crate::cases::{calls, cases, Plan};
 use crate::job::Job;
 use crate::ocb;
 use std::io::{stdin, BufRead, BufReader, Write};
@@ -15,7 +15,7 @@ pub fn serve(plan: &Plan) {
     println!("{}", ocb::features().join(" "));
     for line in stdin().lock().lines() {
         let i: usize = line.expect("a line").parse().expect("a case's number");
-        println!("{}", jobs[i].sample(cases[i].calls()));
+        println!("{}", jobs[i].sample(calls(cases[i].size)));
         jobs[i].check();
     }
 }

@@ -1,4 +1,5 @@
-// From C++: a record is sealed, opened, and refused where a byte of it is another.
+// From C++: a record is sealed, opened, and refused where a byte of it is another; a log is marked, checked, and
+// refused where its mark is another.
 #include <cba.h>
 
 #include <cstdio>
@@ -14,6 +15,7 @@ const std::size_t tag = 12;
 const Bytes key(32, 7);
 const Bytes nonce(12, 1);
 const Bytes data; // none: its pointer may be null
+const Bytes key_of_marks(24, 9);
 
 Bytes sealed(const Bytes &text)
 {
@@ -48,10 +50,30 @@ bool round_trip(const Bytes &text)
     return true;
 }
 
+std::uint32_t check(const Bytes &log, const Bytes &mark)
+{
+    return cmac_check(key_of_marks.data(), key_of_marks.size(), log.data(), log.size(), mark.data(), mark.size());
+}
+
+bool marked(const Bytes &log)
+{
+    Bytes mark(16);
+    if (cmac_make(key_of_marks.data(), key_of_marks.size(), log.data(), log.size(), mark.size(), mark.data(),
+                  mark.size()) != CBA_OK)
+        return fail("not marked");
+    if (check(log, mark) != CBA_OK)
+        return fail("not the log's mark");
+    mark.back() ^= 1;
+    if (check(log, mark) != CBA_FALSE)
+        return fail("another mark is not refused as false");
+    return check(log, Bytes(3)) == CBA_MARK || fail("a mark of 3 bytes is not refused");
+}
+
 } // namespace
 
 int main()
 {
-    const std::string text = "2000 m in 7:42.5, 28 strokes a minute";
-    return round_trip(Bytes()) && round_trip(Bytes(text.begin(), text.end())) ? 0 : 1;
+    const std::string words = "2000 m in 7:42.5, 28 strokes a minute";
+    const Bytes text(words.begin(), words.end());
+    return round_trip(Bytes()) && round_trip(text) && marked(Bytes()) && marked(text) ? 0 : 1;
 }

@@ -28,7 +28,10 @@ readme_program() {
 }
 
 check_built() { # PREFIX
-    built "$1" gcc -O2 examples/seal_and_open.c | cmp - examples/seal_and_open.out
+    local example
+    for example in seal_and_open mark_and_check; do
+        built "$1" gcc -O2 "examples/$example.c" | cmp - "examples/$example.out"
+    done
     readme_program >"$tmp/readme.c"
     built "$1" gcc -O2 "$tmp/readme.c" || same "the status of README.md's lines of C" 0 $?
     built "$1" g++ -std=c++11 tests/cplusplus.cc

@@ -1,7 +1,9 @@
-/* cba_seal and cba_open on a stack of as many bytes as cba.h says, above memory that cannot be
-   touched: every set, each form and the longest text, with data of several lengths. Each case runs
-   in a process of its own, so that its first call is also the one at which the dynamic linker looks
-   for memcpy and memset. On a much smaller stack the same calls must crash. */
+/* The calls on a stack of as many bytes as cba.h says, above memory that cannot be touched: cba_seal
+   and cba_open with every set, each form and the longest text, and with data of several lengths;
+   cmac_make and cmac_check with every length of key and of mark, and logs of several lengths up to
+   the longest. Each case runs in a process of its own, so that its first call is also the one at
+   which the dynamic linker looks for memcpy and memset. On a much smaller stack the same calls must
+   crash. */
 #define _GNU_SOURCE
 #include <signal.h>
 #include <stdio.h>
@@ -16,6 +18,7 @@
 #include "cba.h"
 
 enum { SETS = 10, NONCE = 12, DATA = 4096, TEXT = 65536, MOST_TAG = 12, MOST_KEY = 32 };
+enum { LEAST_MARK = 4, MOST_MARK = 16 };
 enum { PATTERN = 0xa5, GUARD = 1 << 16, TOO_LITTLE = 2048 };
 
 /* By the set's number: bytes of the key, of the tag, and of the longest message of the short form. */
@@ -24,16 +27,21 @@ static const struct { size_t key, tag, first; } sets[SETS + 1] = {
     {16, 12, 8}, {16, 12, 4}, {16, 12, 0}, {24, 8, 4}, {32, 12, 0},
 };
 
+enum kind { SEAL, OPEN, MAKE, CHECK, KINDS };
+
+static const char *const names[KINDS] = {"cba_seal", "cba_open", "cmac_make", "cmac_check"};
+
 struct call {
-    int opens;
-    uint32_t set;
-    size_t data_len, text_len; /* of the message */
+    enum kind kind;
+    uint32_t set;              /* of sealing and opening */
+    size_t data_len, text_len; /* of the message, or of the log */
+    size_t key_len, mark_len;  /* of marks */
 };
 
-/* What is measured, by sealing and opening; the processes share it. */
+/* What is measured, by the kind of a call; the processes share it. */
 static struct { size_t most, most_without_data; } *measured;
 
-static uint8_t key[MOST_KEY], nonce[NONCE], data[DATA], text[TEXT];
+static uint8_t key[MOST_KEY], nonce[NONCE], data[DATA], text[TEXT], mark[MOST_MARK];
 static uint8_t sealed[TEXT + MOST_TAG], opened[TEXT], expected[TEXT + MOST_TAG];
 static struct call now;
 static uint32_t answer;
@@ -41,20 +49,25 @@ static ucontext_t main_stack, small_stack;
 
 static void fail(const char *what)
 {
-    fprintf(stderr, "stack: set %u, data %zu, text %zu, %s: %s\n", (unsigned)now.set, now.data_len,
-            now.text_len, now.opens ? "cba_open" : "cba_seal", what);
+    fprintf(stderr, "stack: %s, set %u, data %zu, text %zu, a mark's key %zu, mark %zu: %s\n",
+            names[now.kind], (unsigned)now.set, now.data_len, now.text_len, now.key_len,
+            now.mark_len, what);
     exit(1);
 }
 
 static void call_now(void)
 {
     size_t key_len = sets[now.set].key, sealed_len = now.text_len + sets[now.set].tag;
-    if (now.opens)
+    if (now.kind == OPEN)
         answer = cba_open(now.set, key, key_len, nonce, NONCE, data, now.data_len,
                           sealed, sealed_len, opened, now.text_len);
-    else
+    else if (now.kind == SEAL)
         answer = cba_seal(now.set, key, key_len, nonce, NONCE, data, now.data_len,
                           text, now.text_len, sealed, sealed_len);
+    else if (now.kind == MAKE)
+        answer = cmac_make(key, now.key_len, text, now.text_len, now.mark_len, mark, MOST_MARK);
+    else
+        answer = cmac_check(key, now.key_len, text, now.text_len, mark, now.mark_len);
 }
 
 /* Makes the call on a stack of so many bytes, and gives how many of them it used. */
@@ -82,40 +95,54 @@ static size_t used_by_call(size_t size)
     return size - untouched;
 }
 
-static void make_call(int opens, size_t size, uint32_t right)
+static void make_call(enum kind kind, size_t size, uint32_t right)
 {
     size_t used;
-    now.opens = opens;
+    now.kind = kind;
     used = used_by_call(size);
     if (answer != right)
         fail("another answer");
-    if (measured[opens].most < used)
-        measured[opens].most = used;
-    if (now.data_len == 0 && measured[opens].most_without_data < used)
-        measured[opens].most_without_data = used;
+    if (measured[kind].most < used)
+        measured[kind].most = used;
+    if (now.data_len == 0 && measured[kind].most_without_data < used)
+        measured[kind].most_without_data = used;
+}
+
+/* Makes the call on the process's own stack, which must give the same result. */
+static void same_again(enum kind kind, uint8_t *result, size_t len)
+{
+    memcpy(expected, result, len);
+    memset(result, 0, len);
+    now.kind = kind;
+    call_now();
+    if (answer != CBA_OK || memcmp(result, expected, len) != 0)
+        fail("another result");
 }
 
 /* Seals and opens, and then opens what is false. */
 static void right(size_t size)
 {
-    size_t sealed_len = now.text_len + sets[now.set].tag;
-    make_call(0, size, CBA_OK);
-    make_call(1, size, CBA_OK);
+    make_call(SEAL, size, CBA_OK);
+    make_call(OPEN, size, CBA_OK);
     if (memcmp(opened, text, now.text_len) != 0)
         fail("another message");
-    memcpy(expected, sealed, sealed_len);
-    memset(sealed, 0, sealed_len);
-    now.opens = 0;
-    call_now(); /* on the process's own stack */
-    if (answer != CBA_OK || memcmp(sealed, expected, sealed_len) != 0)
-        fail("another ciphertext");
+    same_again(SEAL, sealed, now.text_len + sets[now.set].tag);
     sealed[0] ^= 1;
-    make_call(1, size, CBA_FALSE);
+    make_call(OPEN, size, CBA_FALSE);
+}
+
+/* Makes and checks a mark, and then checks what is false. */
+static void right_mark(size_t size)
+{
+    make_call(MAKE, size, CBA_OK);
+    make_call(CHECK, size, CBA_OK);
+    same_again(MAKE, mark, now.mark_len);
+    mark[now.mark_len - 1] ^= 1;
+    make_call(CHECK, size, CBA_FALSE);
 }
 
 /* One call with too little stack, which does not return. */
-static void seal_only(size_t size) { make_call(0, size, CBA_OK); }
-static void open_only(size_t size) { make_call(1, size, CBA_FALSE); }
+static void call_only(size_t size) { make_call(now.kind, size, CBA_OK); }
 
 /* How a process ends that does this on a stack of this size. */
 static int status_of(void (*act)(size_t), size_t size)
@@ -133,49 +160,76 @@ static int status_of(void (*act)(size_t), size_t size)
     return status;
 }
 
-static void must_crash(void (*act)(size_t), size_t data_len, size_t size)
+static void must_crash(enum kind kind, size_t data_len, size_t size)
 {
     int status;
-    now = (struct call){act == open_only, 3, data_len, 40};
-    status = status_of(act, size);
+    now = (struct call){kind, 3, data_len, 40, 16, MOST_MARK};
+    status = status_of(call_only, size);
     if (!WIFSIGNALED(status) || WTERMSIG(status) != SIGSEGV)
         fail("no crash on a stack that is too small");
 }
 
-int main(void)
+static void must_not_crash(void (*act)(size_t), size_t size)
+{
+    if (status_of(act, size) != 0)
+        fail("it failed on the stack that cba.h says is enough");
+}
+
+static int sealings(void)
 {
     static const size_t data_lens[] = {0, 1, 16, 31, 256, 1000, DATA - 1, DATA};
-    const struct rlimit no_core = {0, 0};
     int cases = 0;
-    setrlimit(RLIMIT_CORE, &no_core);
-    measured = mmap(NULL, 2 * sizeof *measured, PROT_READ | PROT_WRITE, MAP_SHARED | MAP_ANONYMOUS,
-                    -1, 0);
-    if (measured == MAP_FAILED)
-        fail("no memory");
-    for (size_t i = 0; i < TEXT; i++) {
-        key[i % MOST_KEY] = nonce[i % NONCE] = data[i % DATA] = (uint8_t)(i * 7 + i / 251);
-        text[i] = (uint8_t)(i * 13 + i / 256);
-    }
     for (uint32_t set = 1; set <= SETS; set++) {
         /* Short, joined, separate with a whole and with a partial last block; the longest. */
         const size_t first = sets[set].first;
         const size_t text_lens[] = {first, first + 17, first + 32, first + 31, TEXT};
         for (size_t i = 0; i < sizeof text_lens / sizeof *text_lens; i++)
             for (size_t j = 0; j < sizeof data_lens / sizeof *data_lens; j++, cases++) {
-                now = (struct call){0, set, data_lens[j], text_lens[i]};
-                if (status_of(right, CBA_STACK_FOR(data_lens[j])) != 0)
-                    fail("it failed on the stack that cba.h says is enough");
+                now = (struct call){SEAL, set, data_lens[j], text_lens[i], 0, 0};
+                must_not_crash(right, CBA_STACK_FOR(data_lens[j]));
             }
     }
+    return cases;
+}
+
+static int marks(void)
+{
+    static const size_t log_lens[] = {0, 1, 16, 17, 32, 4096, TEXT - 1, TEXT};
+    int cases = 0;
+    for (size_t key_len = 16; key_len <= MOST_KEY; key_len += 8)
+        for (size_t mark_len = LEAST_MARK; mark_len <= MOST_MARK; mark_len++)
+            for (size_t i = 0; i < sizeof log_lens / sizeof *log_lens; i++, cases++) {
+                now = (struct call){MAKE, 0, 0, log_lens[i], key_len, mark_len};
+                must_not_crash(right_mark, CBA_STACK_FOR(0));
+            }
+    return cases;
+}
+
+int main(void)
+{
+    const struct rlimit no_core = {0, 0};
+    int cases;
+    setrlimit(RLIMIT_CORE, &no_core);
+    measured = mmap(NULL, KINDS * sizeof *measured, PROT_READ | PROT_WRITE,
+                    MAP_SHARED | MAP_ANONYMOUS, -1, 0);
+    if (measured == MAP_FAILED)
+        fail("no memory");
+    for (size_t i = 0; i < TEXT; i++) {
+        key[i % MOST_KEY] = nonce[i % NONCE] = data[i % DATA] = (uint8_t)(i * 7 + i / 251);
+        text[i] = (uint8_t)(i * 13 + i / 256);
+    }
+    cases = sealings() + marks();
     if (CBA_STACK < CBA_STACK_FOR(DATA))
         fail("CBA_STACK is not enough for the longest data");
-    must_crash(seal_only, DATA, CBA_STACK_FOR(0));
-    must_crash(open_only, DATA, CBA_STACK_FOR(0));
-    must_crash(seal_only, 0, TOO_LITTLE);
-    must_crash(open_only, 0, TOO_LITTLE);
+    must_crash(SEAL, DATA, CBA_STACK_FOR(0));
+    must_crash(OPEN, DATA, CBA_STACK_FOR(0));
+    for (enum kind kind = SEAL; kind < KINDS; kind++)
+        must_crash(kind, 0, TOO_LITTLE);
     printf("stack: %d cases, each on as much as cba.h says, %zu bytes for the longest data; sealing and "
-           "opening used at most %zu and %zu, without data %zu and %zu; with too little 4 of 4 crash\n",
-           cases, (size_t)CBA_STACK, measured[0].most, measured[1].most,
-           measured[0].most_without_data, measured[1].most_without_data);
+           "opening used at most %zu and %zu, without data %zu and %zu; making and checking a mark "
+           "%zu and %zu; with too little 6 of 6 crash\n",
+           cases, (size_t)CBA_STACK, measured[SEAL].most, measured[OPEN].most,
+           measured[SEAL].most_without_data, measured[OPEN].most_without_data,
+           measured[MAKE].most, measured[CHECK].most);
     return 0;
 }

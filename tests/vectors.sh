@@ -1,7 +1,8 @@
 #!/usr/bin/env bash
-# Holds crates/aes_vectors/stdout, the results of FIPS 197's appendices A, B and C, against openssl. A program
-# of ours must write that file, so a wrong digit in it would be a wrong test: no code of ours takes part here.
-# openssl shows no round keys and no state within a block: of these only the number and the form are checked.
+# Holds crates/aes_vectors/stdout, the results of FIPS 197's appendices A, B and C, and crates/cmac_vectors/stdout, those
+# of RFC 4493's section 4 and NIST SP 800-38B's appendix D, against openssl. A program of ours must write each file, so a
+# wrong digit in it would be a wrong test: no code of ours takes part here. openssl shows no round keys and no state
+# within a block: of these only the number and the form are checked.
 set -euo pipefail
 cd "$(dirname "$(readlink -f "$0")")/.."
 file=crates/aes_vectors/stdout
@@ -18,10 +19,11 @@ same() { # WHAT EXPECTED FOUND
     [ "$2" = "$3" ] || { printf 'vectors.sh: %s: expected %s, found %s\n' "$1" "$2" "$3" >&2; exit 1; }
 }
 
+bytes() { printf '%b' "$(sed 's/../\\x&/g' <<<"$1")"; } # HEX
+
 # openssl's AES of one block, in hex.
 ecb() { # KEY BLOCK [-d]
-    printf '%b' "$(sed 's/../\\x&/g' <<<"$2")" |
-        openssl enc "-aes-$((${#1} * 4))-ecb" -nopad -nosalt -K "$1" "${@:3}" | od -An -v -tx1 | tr -d ' \n'
+    bytes "$2" | openssl enc "-aes-$((${#1} * 4))-ecb" -nopad -nosalt -K "$1" "${@:3}" | od -An -v -tx1 | tr -d ' \n'
 }
 
 # The rows below a heading, up to the next heading.
@@ -56,3 +58,37 @@ for i in 1 2 3; do
     same "C.$i, its plaintext" $c_plain "$plain"
 done
 echo "vectors.sh: the ciphertexts and plaintexts of $file are openssl's"
+
+# CMAC: the keys of SP 800-38B are those of FIPS 197's appendix A. The message's first 20 bytes are of NIST's later
+# examples.
+file=crates/cmac_vectors/stdout
+message=6bc1bee22e409f96e93d7e117393172aae2d8a571e03ac9c9eb76fac45af8e51
+message+=30c81c46a35ce411e5fbc1191a0a52eff69f2445df4f9b17ad2b417be66c3710
+zeros=00000000000000000000000000000000
+
+# A block shifted by a bit, and 87 into its last byte where a bit is lost.
+doubled() { # BLOCK
+    local high=$((16#${1:0:16})) low=$((16#${1:16}))
+    printf '%016x%016x' $((high << 1 | (low >> 63 & 1))) $((low << 1 ^ (high >> 63 & 1) * 0x87))
+}
+
+# openssl's CMAC, in hex.
+cmac() { # KEY MESSAGE
+    bytes "$2" | openssl mac -cipher "AES-$((${#1} * 4))-CBC" -macopt "hexkey:$1" CMAC | tr A-F a-f
+}
+
+# The whole file, line by line.
+cmac_lines() {
+    local key l n
+    for key in "${a_keys[@]}"; do
+        echo "AES-$((${#key} * 4)) $key"
+        l=$(ecb "$key" $zeros)
+        echo "L $l"
+        echo "K1 $(doubled "$l")"
+        echo "K2 $(doubled "$(doubled "$l")")"
+        for n in 0 16 20 40 64; do echo "$n $(cmac "$key" "${message:0:2*n}")"; done
+    done
+}
+
+diff "$file" <(cmac_lines) >&2 || { echo "vectors.sh: $file is not what openssl gives, which is shown by >" >&2; exit 1; }
+echo "vectors.sh: the subkeys and codes of $file are openssl's"

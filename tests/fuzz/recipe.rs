@@ -1,5 +1,5 @@
 //! How an input of the fuzzer is read: as a sealing, and as the opening of what it gives or of something near it. Every
-//! input can be read, and what is not there is 0.
+//! input can be read, and what is not there is 0. One that begins with 228 to 239 is read as marks (recipe_marks.rs).
 //!
 //!     byte 0       the set
 //!     bytes 1, 2   the lengths of key and nonce, 0 for the right one
@@ -33,10 +33,7 @@ impl Call {
             0 => (act.result_len)(set(number).expect("a set"), lengths[3]),
             _ => lengths[3], // whatever the room, it is refused
         };
-        let out = match room {
-            0..=127 => need + room as usize,
-            _ => need.saturating_sub(room as usize - 127),
-        };
+        let out = output(need, room);
         let (answer, result) = match act.refusal(number, lengths, out) {
             0 => (act.expected)(number, [0, 1, 2, 3].map(|i| &inputs[i][..])),
             refusal => (refusal, vec![]),
@@ -92,7 +89,7 @@ fn set_number(byte: u8) -> u32 {
     }
 }
 
-fn length(byte: u8, right: usize) -> usize {
+pub fn length(byte: u8, right: usize) -> usize {
     match byte {
         0 => right,
         255 => 0,
@@ -100,8 +97,16 @@ fn length(byte: u8, right: usize) -> usize {
     }
 }
 
+/// The length of an output for a result of so many bytes: as long or longer, or shorter.
+pub fn output(need: usize, room: u8) -> usize {
+    match room {
+        0..=127 => need + room as usize,
+        _ => need.saturating_sub(room as usize - 127),
+    }
+}
+
 /// A length below 1,024, as long ones take the reference a long time, or one about a limit.
-fn near(about: u8, n: u8) -> usize {
+pub fn near(about: u8, n: u8) -> usize {
     n as usize
         + match about {
             254.. => MOST_TEXT - 128,
@@ -115,15 +120,7 @@ fn change(call: &mut (u32, [Vec<u8>; 4]), kind: u8, place: usize, filler: &mut F
     let (number, inputs) = call;
     match kind % 9 {
         0 => (),
-        flip @ 1..=4 => {
-            let input = &mut inputs[4 - flip as usize];
-            let bit = place % (8 * input.len()).max(1);
-            input
-                .iter_mut()
-                .skip(bit / 8)
-                .take(1)
-                .for_each(|byte| *byte ^= 0x80 >> (bit % 8));
-        }
+        input @ 1..=4 => flip(&mut inputs[4 - input as usize], place),
         5 => inputs[3].truncate(place % (inputs[3].len() + 1)),
         6 => inputs[3].extend(filler.take(place % 256)),
         7 => inputs[3] = filler.take(place % 1024),
@@ -131,14 +128,24 @@ fn change(call: &mut (u32, [Vec<u8>; 4]), kind: u8, place: usize, filler: &mut F
     }
 }
 
+/// A bit flipped, where there is one.
+pub fn flip(input: &mut [u8], place: usize) {
+    let bit = place % (8 * input.len()).max(1);
+    input
+        .iter_mut()
+        .skip(bit / 8)
+        .take(1)
+        .for_each(|byte| *byte ^= 0x80 >> (bit % 8));
+}
+
 /// The rest of an input, over and over; zeros where there is none.
-struct Filler<'a> {
-    bytes: &'a [u8],
-    at: usize,
+pub struct Filler<'a> {
+    pub bytes: &'a [u8],
+    pub at: usize,
 }
 
 impl Filler<'_> {
-    fn take(&mut self, count: usize) -> Vec<u8> {
+    pub fn take(&mut self, count: usize) -> Vec<u8> {
         let start = self.at;
         self.at += count;
         let byte = |i| self.bytes.get(i % self.bytes.len().max(1)).copied();

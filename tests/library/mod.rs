@@ -1,9 +1,10 @@
-//! cba_seal and cba_open called from the outside, each call held to what is expected.
+//! cba_seal and cba_open called from the outside, each call held to what is expected; cmac_make and cmac_check.
 
 #![allow(dead_code)] // no program uses all of it
 
 mod files;
-mod room;
+mod marks;
+pub mod room;
 pub mod run;
 mod show;
 pub mod test;

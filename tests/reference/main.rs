@@ -1,4 +1,4 @@
-//! A second implementation of CBA v1-1, from the paper alone, to compare with.
+//! A second implementation of CBA v1-1 and of CMAC, from the papers alone, to compare with.
 //!
 //!   rustc --edition 2021 -O -o /tmp/reference tests/reference/main.rs
 //!   /tmp/reference self-test [SEED]
@@ -13,7 +13,7 @@
 //!
 //! It is for comparing only: slow, and its running time tells its secrets.
 
-// The paper's names.
+// The papers' names.
 #![allow(non_snake_case)]
 
 /// Ends a function with what went wrong. It stands before the modules, which use it.
@@ -27,6 +27,7 @@ macro_rules! ensure {
 
 mod by_rule;
 mod ciphers;
+mod cmac;
 mod form;
 mod hub;
 mod mode;

@@ -1,9 +1,13 @@
-//! What the programs share that calls no library: the mode written a second time, the table of answers, and inputs.
+//! What the programs share that calls no library: the mode and CMAC written a second time, the tables of answers, and
+//! inputs.
 
 #![allow(dead_code)] // no program uses all of it
 
+#[path = "../reference/cmac.rs"]
+pub mod cmac;
 pub mod expected;
 pub mod inputs;
+pub mod marks;
 #[path = "../reference/mode/mod.rs"]
 #[allow(unused_imports)]
 pub mod mode;

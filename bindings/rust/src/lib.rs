@@ -1,7 +1,9 @@
-//! Authenticated encryption of one record at a time: CBA v1-1 over AES, by the proved library `libcba.a`.
+//! Authenticated encryption of one record at a time, CBA v1-1 over AES, and marks for service logs, AES-CMAC, by the
+//! proved library `libcba.a`.
 //!
 //! [`seal`] makes a ciphertext of a message, and [`open`] gives the message back or refuses. [`seal_into`] and
-//! [`open_into`] do the same in a buffer of the caller's.
+//! [`open_into`] do the same in a buffer of the caller's. [`mark`] makes the mark of a log, [`mark_into`] does it in a
+//! buffer of the caller's, and [`check_mark`] says whether a mark is the log's.
 //!
 //! ```
 //! let key = [7; 16]; // a real one is secret and random
@@ -12,33 +14,56 @@
 //! # Ok::<(), cba::Error>(())
 //! ```
 //!
+//! # Marks
+//!
+//! A mark is the first 4 to 16 bytes of the AES-CMAC (RFC 4493, NIST SP 800-38B) of a log under a key of 16, 24 or 32
+//! bytes. Anybody can read the log, and whoever has the key can tell that it is as it was when it was marked.
+//!
+//! ```
+//! let key = [9; 16]; // secret and random, and not one that seals
+//! let mark = cba::mark(&key, b"rower 7: chain oiled", 8)?;
+//! assert_eq!(cba::check_mark(&key, b"rower 7: chain oiled", &mark), Ok(()));
+//! assert_eq!(cba::check_mark(&key, b"rower 8: chain oiled", &mark), Err(cba::Error::False));
+//! # Ok::<(), cba::Error>(())
+//! ```
+//!
+//! A mark is no encryption: it hides nothing of the log. It does not tell who marked the log, for whoever can check a
+//! mark can make one, nor that the log is new: one that is sent again passes again.
+//!
 //! # What a caller has to see to
 //!
 //! * The key is random and secret. Set and key are known to the one who opens, and not taken from the record.
+//! * A key is for sealing or for marks, and never for both: each mode's claim is about a key that nothing else uses.
+//! * A mark of n bytes is guessed with a chance of 256^-n, and each try is a new chance. The one who checks knows n
+//!   and holds the mark's length to it: were it taken from the mark that is sent, a guesser would send one of 4 bytes.
 //! * No nonce is used twice to seal under one key; a count will do. Whoever sees two ciphertexts under one key and
 //!   nonce learns where blocks of 16 bytes of their messages are the same and the exclusive or of some others of their
 //!   bytes, and may be able to make a ciphertext that opens.
 //! * All sealings under one key use at most [`Set::blocks`] blocks. One uses ⌈data bytes / 16⌉ + ⌈message bytes /
-//!   16⌉, and counts as one where that is 0. Nothing here counts them.
-//! * A call needs up to 96 KiB of stack: 16 KiB, and 20 bytes for each byte of data. This is measured, not proved, and
-//!   a call does not notice that its stack is too small.
+//!   16⌉, and counts as one where that is 0. Nothing here counts them, nor the logs that are marked under one key,
+//!   which SP 800-38B's appendix B bounds.
+//! * A call needs up to 96 KiB of stack: 16 KiB, and 20 bytes for each byte of data. A mark has no data. This is
+//!   measured, not proved, and a call does not notice that its stack is too small.
 //!
 //! A call has no state: any number of threads may call at once.
 //!
 //! # What is proved
 //!
-//! Of the library, for every input: the answer, the result and every byte of the output, and that sealing is CBA
-//! v1-1's ENC over AES and opening its DEC. Not proved: that CBA is hard to break; how long a call takes (AES's tables
-//! are read at places that depend on the key, so that the time may tell of it); that nothing of a key is left in
-//! memory; and this crate, which is a few lines around the library's two calls.
+//! Of the library, for every input: the answer, the result and every byte of the output; that sealing is CBA v1-1's
+//! ENC over AES and opening its DEC; that a mark is the first bytes of the log's AES-CMAC, and that exactly this mark
+//! passes the check. Not proved: that CBA or CMAC is hard to break; how long a call takes (AES's tables are read at
+//! places that depend on the key, so that the time may tell of it); that nothing of a key is left in memory; and this
+//! crate, which is a few lines around the library's four calls.
 
 #![deny(missing_docs, unsafe_code)]
 
 mod call;
 mod error;
+mod marks;
 mod set;
 
 pub use error::Error;
+pub use marks::{check_mark, mark, mark_into, MAX_LOG, MAX_MARK, MIN_MARK};
 pub use set::Set;
 
 /// The bytes of a nonce.

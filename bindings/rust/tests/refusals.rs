@@ -1,7 +1,8 @@
-//! Each error, by itself and before those after it, and what is in the buffer then.
+//! Each error of sealing and opening, by itself and before those after it, and what is in the buffer then.
 
 use cba::{open, open_into, seal, seal_into, Error, Set, MAX_DATA, MAX_MESSAGE, NONCE_LEN};
 
+/// In the order of the checks, which is that of their numbers.
 const ERRORS: [Error; 8] = [
     Error::Set,
     Error::Key,
@@ -119,10 +120,13 @@ fn a_vector_is_refused_alike() {
 
 #[test]
 fn an_error_has_its_number_and_a_text_of_its_own() {
-    for (i, error) in ERRORS.iter().enumerate() {
-        assert_eq!(error.number() as usize, i + 1);
+    let numbers = ERRORS.map(Error::number);
+    assert_eq!(numbers, [1, 2, 3, 4, 5, 6, 7, 8]);
+    assert_eq!(Error::Mark.number(), 14);
+    let all = [&ERRORS[..], &[Error::Mark]].concat();
+    for error in &all {
         let as_error: &dyn std::error::Error = error;
-        let others = ERRORS.iter().filter(|other| *other != error);
+        let others = all.iter().filter(|other| *other != error);
         assert!(others
             .into_iter()
             .all(|other| other.to_string() != as_error.to_string()));

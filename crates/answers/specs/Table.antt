@@ -33,4 +33,5 @@ table =
     ∷ entry 11 "line" "program: malformed line"
     ∷ entry 12 "console" "ledger: the nonce's first two bytes are another number than the ledger's"
     ∷ entry 13 "name" "ledger: a name above 7 or, in a sealing, one with nothing kept"
+    ∷ entry 14 "mark" "mark: a length outside 4 to 16"
     ∷ []

@@ -17,13 +17,13 @@ use Rattle.cba_mode.proofs.OffsetLaws.{halves-back}
 
 -- ---- two halves as one number
 
-number-pair : (u v : ℕ) → u < 2 ^ 64 → v < 2 ^ 64 → number (digits 8 u ++ digits 8 v) ≡ u * 2 ^ 64 + v
+pub number-pair : (u v : ℕ) → u < 2 ^ 64 → v < 2 ^ 64 → number (digits 8 u ++ digits 8 v) ≡ u * 2 ^ 64 + v
 number-pair u v h k =
     number-append (digits 8 u) (digits 8 v)
     ∙ ap (λ (n : ℕ). number (digits 8 u) * 256 ^ n + number (digits 8 v)) (length-digits 8 v)
     ∙ ap₂ (λ (x y : ℕ). x * 256 ^ 8 + y) (number-digits 8 u ∙ mod-eq-of-lt h) (number-digits 8 v ∙ mod-eq-of-lt k)
 
-digits-pair : (u v : ℕ) → u < 2 ^ 64 → v < 2 ^ 64 → digits 8 u ++ digits 8 v ≡ digits 16 (u * 2 ^ 64 + v)
+pub digits-pair : (u v : ℕ) → u < 2 ^ 64 → v < 2 ^ 64 → digits 8 u ++ digits 8 v ≡ digits 16 (u * 2 ^ 64 + v)
 digits-pair u v h k =
     let s = digits 8 u ++ digits 8 v in
     let n : length s ≡ 16 = length-append (digits 8 u) (digits 8 v) ∙ omega (arith, length-digits 8 u, length-digits 8 v) in

@@ -40,14 +40,15 @@ unshift {s} o = ap invSubBytes (invShiftRows-shiftRows (subBytes-octets s)) ∙ 
 reshift : {s : List ℕ} → Octets 16 s → shiftRows (subBytes (invSubBytes (invShiftRows s))) ≡ s
 reshift o = ap shiftRows (subBytes-invSubBytes (invShiftRows-octets o)) ∙ shiftRows-invShiftRows o
 
+-- the result is a block, whatever goes in
+pub cipher-octets : (w : List ℕ) → Bytes w → (nr : ℕ) → 16 * suc nr ≤ length w → (s : List ℕ) → Octets 16 (cipherOver w nr s)
+cipher-octets w b nr room s = addRoundKey-octets w nr room (subShift-octets _) b
+
 module _ (w : List ℕ) (b : Bytes w) (nr : ℕ) (room : 16 * suc nr ≤ length w) {s : List ℕ} (o : Octets 16 s) where
   pub rounds-octets : (n : ℕ) → n ≤ nr → Octets 16 (rounds w n s)
   unfolding rounds
   rounds-octets zero h = addRoundKey-octets w 0 (omega arith) o b
   rounds-octets (suc n) h = addRoundKey-octets w (suc n) (omega arith) (mixColumns-octets _) b
-
-  pub cipher-octets : Octets 16 (cipherOver w nr s)
-  cipher-octets = addRoundKey-octets w nr room (subShift-octets _) b
 
   pub invRounds-octets : (n : ℕ) → Octets 16 (invRounds w nr n s)
   unfolding invRounds

@@ -1,38 +1,40 @@
-//! Fuzzes cba_seal and cba_open: each input is a sealing and an opening (see recipe.rs), and must give the answer, the
-//! result and the output that the reference gives. libFuzzer calls this; tests/fuzz/run builds it.
+//! Fuzzes the library's calls: each input is a sealing and an opening (see recipe.rs), or the making and the checking of
+//! a mark (see recipe_marks.rs), and must give the answer, the result and the output that the reference gives. libFuzzer
+//! calls this; tests/fuzz/run builds it.
 
 #![no_main]
-#![allow(non_snake_case)] // the paper's names
+#![allow(non_snake_case)] // the papers' names
 #![allow(dead_code)] // of what the tests share
 
 mod fence;
 #[path = "../../library/mod.rs"]
 mod library;
+mod marks;
 #[path = "../recipe.rs"]
 mod recipe;
+#[path = "../recipe_marks.rs"]
+mod recipe_marks;
+mod run;
 #[path = "../../shared/mod.rs"]
 mod shared;
 
-use fence::Fenced;
 use recipe::Call;
+use run::{run, Expected};
 use shared::mode::bytes::to_hex;
-use std::cell::RefCell;
-
-const BEFORE: u8 = 0xa5; // every byte of an output, before the call
-const GUARD: usize = 64; // bytes before the output, which a call must leave
 
 const SHORT: usize = 80; // bytes of a text below which each length counts; from there on its form does
 const TEXTS: usize = 3 * 10 * (SHORT + 3); // sealed, opened or false; the set; the text
 const DATA: usize = 3 * 48; // the form, and the length of short data
+const ALL: usize = TEXTS + DATA + marks::COUNTERS;
 
 /// The library has no counters of its own, and the reference's do not tell of a set together with a length. So these are
 /// kept, which libFuzzer takes as coverage too.
 #[link_section = "__libfuzzer_extra_counters"]
 #[used]
-static mut SEEN: [u8; TEXTS + DATA] = [0; TEXTS + DATA];
+static mut SEEN: [u8; ALL] = [0; ALL];
 
-thread_local! {
-    static ROOMS: RefCell<[Fenced; 5]> = RefCell::new(std::array::from_fn(|_| Fenced::new()));
+fn seen(i: usize) {
+    unsafe { SEEN[i] = 1 };
 }
 
 /// What libFuzzer calls, with `len` bytes at `place`.
@@ -42,53 +44,49 @@ pub unsafe extern "C" fn LLVMFuzzerTestOneInput(place: *const u8, len: usize) ->
         0 => &[], // its place may be null
         _ => std::slice::from_raw_parts(place, len),
     };
+    if let Some(calls) = recipe_marks::calls(input) {
+        for call in calls {
+            marks::check(&call);
+            let counters = marks::counted(&call).into_iter().flatten();
+            counters.for_each(|i| seen(TEXTS + DATA + i));
+        }
+        return 0;
+    }
     for call in recipe::calls(input) {
-        ROOMS.with(|rooms| check(&call, &mut rooms.borrow_mut()));
+        check(&call);
         count(&call);
     }
     0
 }
 
-/// Makes the call, with every input and the output up to a fence.
-fn check(call: &Call, rooms: &mut [Fenced; 5]) {
-    let given = [0, 1, 2, 3].map(|i| {
-        let bytes = &call.inputs[i];
-        (rooms[i].put(bytes) as *const u8, bytes.len())
+/// Makes the call. libFuzzer keeps the input of a run that ends in a panic.
+fn check(call: &Call) {
+    let inputs = [0, 1, 2, 3].map(|i| &call.inputs[i][..]);
+    let expected = Expected {
+        out: call.out,
+        answer: call.answer,
+        result: &call.result,
+    };
+    let left = run(inputs, expected, |given, out| unsafe {
+        call.act.call(call.set, given, out)
     });
-    rooms[4].last(GUARD + call.out).fill(BEFORE);
-    let out = rooms[4].last(call.out).as_mut_ptr();
-    let answer = unsafe { call.act.call(call.set, given, (out, call.out)) };
-
-    let mut expected = vec![BEFORE; GUARD + call.out];
-    expected[GUARD..][..call.result.len()].copy_from_slice(&call.result);
-    let kept = (0..4).all(|i| rooms[i].is(&call.inputs[i]));
-    if answer != call.answer || !kept || !rooms[4].is(&expected) {
-        let out = to_hex(rooms[4].last(GUARD + call.out));
-        differs(call, answer, kept, &out, &to_hex(&expected));
+    if let Err(why) = left {
+        let (name, set) = (call.act.name, call.set);
+        let [key, nonce, data, text] = inputs.map(to_hex);
+        panic!(
+            "{name}: set {set}\n  key {key}\n  nonce {nonce}\n  data {data}\n  text {text}\n  {why}"
+        );
     }
-}
-
-/// libFuzzer keeps the input of a run that ends so.
-fn differs(call: &Call, answer: u32, kept: bool, out: &str, expected: &str) -> ! {
-    let [key, nonce, data, text] = [0, 1, 2, 3].map(|i| to_hex(&call.inputs[i]));
-    let (name, set) = (call.act.name, call.set);
-    eprintln!("{name}: set {set}\n  key {key}\n  nonce {nonce}\n  data {data}\n  text {text}");
-    eprintln!("  out, after {GUARD} bytes that are not its own: {out}\n  expected {expected}");
-    panic!(
-        "answer {answer}, expected {}; inputs kept: {kept}",
-        call.answer
-    );
 }
 
 fn count(call: &Call) {
     let Some(form) = call.form() else { return };
-    let mark = |i: usize| unsafe { SEEN[i] = 1 };
     let opens = (call.act.name == "cba_open") as usize;
     let what = opens + (call.answer == 8) as usize;
     let [data, text] = [2, 3].map(|i| call.inputs[i].len());
     let text = if text < SHORT { text } else { SHORT + form };
-    mark((what * 10 + call.set as usize - 1) * (SHORT + 3) + text);
+    seen((what * 10 + call.set as usize - 1) * (SHORT + 3) + text);
     if data < 48 {
-        mark(TEXTS + form * 48 + data);
+        seen(TEXTS + form * 48 + data);
     }
 }

@@ -1,13 +1,18 @@
 //! What the inputs that the fuzzer starts from must have.
 
 use crate::shared::expected::{form, set, OPEN, SEAL};
-use crate::{model, recipe};
+use crate::shared::marks::ACTS;
+use crate::{model, recipe, recipe_marks};
 use std::collections::BTreeSet;
 
-/// Every function has every answer that it can give, 0 and 8 in every set and form.
+/// Every function has every answer that it can give, 0 and 8 in every set and form, and of marks under every key.
 pub fn calls(inputs: &[Vec<u8>]) {
+    let (of_marks, others): (Vec<_>, Vec<_>) = inputs
+        .iter()
+        .partition(|input| recipe_marks::calls(input).is_some());
+    marks(&of_marks);
     let (mut answers, mut forms) = (BTreeSet::new(), BTreeSet::new());
-    for call in inputs.iter().flat_map(|input| recipe::calls(input)) {
+    for call in others.iter().flat_map(|input| recipe::calls(input)) {
         answers.insert((call.act.name, call.answer));
         forms.extend(
             call.form()
@@ -22,6 +27,29 @@ pub fn calls(inputs: &[Vec<u8>]) {
         10 * 3 * 3,
         "sealed, opened and false in every set and form"
     );
+}
+
+fn marks(inputs: &[&Vec<u8>]) {
+    let (mut answers, mut keys) = (BTreeSet::new(), BTreeSet::new());
+    for call in inputs
+        .iter()
+        .filter_map(|input| recipe_marks::calls(input))
+        .flatten()
+    {
+        answers.insert((call.act, call.answer));
+        if matches!(call.answer, 0 | 8) {
+            keys.insert((call.act, call.inputs[0].len(), call.answer));
+        }
+    }
+    let all = ACTS.map(|act| {
+        [&[0], &act.refusals()[..]]
+            .concat()
+            .into_iter()
+            .map(move |a| (act, a))
+    });
+    let all: BTreeSet<_> = all.into_iter().flatten().collect();
+    assert!(answers == all, "other answers about marks");
+    assert_eq!(keys.len(), 3 * 3, "made, checked and false under every key");
 }
 
 /// Every answer that a line can have, and an accepted sealing and opening in every set and form.

@@ -1,5 +1,5 @@
 //! The inputs that the fuzzer starts from, tests/fuzz/corpus: writes them, or checks that those in a folder have every
-//! set, form and answer.
+//! set, form, length of a mark's key and answer.
 //!
 //!     target/tests/fuzz_seeds write FOLDER
 //!     target/tests/fuzz_seeds check FOLDER
@@ -16,12 +16,15 @@ mod lines;
 mod model;
 #[path = "../recipe.rs"]
 mod recipe;
+#[path = "../recipe_marks.rs"]
+mod recipe_marks;
 #[path = "../../shared/mod.rs"]
 mod shared;
 
 use lines::MALFORMED;
 use model::{FIRST, LF, MOST_LINE};
 use shared::expected::{form, sets, Set};
+use shared::marks::KEYS;
 use shared::random::Random;
 use shared::seed::wrong;
 use std::fs::{create_dir_all, read, read_dir, write};
@@ -38,7 +41,7 @@ fn of_form(s: Set, f: usize) -> usize {
     message
 }
 
-/// An input of the library's: the places of recipe.rs that are not 0, for a message of so many bytes.
+/// An input of the library's: the places of recipe.rs that are not 0, for a message or a log of so many bytes.
 fn seed(set: u32, message: usize, places: &[(usize, u8)]) -> Vec<u8> {
     let mut head = [0; recipe::HEAD];
     (head[0], head[6]) = (set as u8, message as u8);
@@ -81,6 +84,46 @@ fn for_calls() -> Seeds {
         }
     }
     seeds.extend(LIMITS.map(|(name, n, message, places)| (name.into(), seed(n, message, places))));
+    seeds.extend(for_marks());
+    seeds
+}
+
+/// Name, bytes of the log, and the places of recipe_marks.rs that are not 0.
+const MARKS: [(&str, usize, &[(usize, u8)]); 16] = [
+    ("no_key", 20, &[(1, 255), (2, 8)]),
+    ("short_key", 20, &[(1, 15), (2, 8)]),
+    ("most_log", 128, &[(5, 254), (2, 16)]),
+    ("long_log", 129, &[(5, 254), (2, 16)]),
+    ("of_no_bytes", 20, &[]),
+    ("of_3_bytes", 20, &[(2, 3)]),
+    ("of_17_bytes", 20, &[(2, 17)]),
+    ("by_8_bits", 20, &[(2, 248)]),
+    ("no_room", 20, &[(2, 8), (10, 128)]),
+    ("more_room", 20, &[(2, 8), (10, 40)]),
+    ("cut", 20, &[(2, 16), (7, 4), (9, 5)]),
+    ("extended", 20, &[(2, 8), (7, 5), (9, 1)]),
+    ("of_another_kind", 20, &[(2, 8), (7, 6), (9, 8)]),
+    ("of_a_longer_log", 20, &[(2, 8), (7, 7), (9, 16)]),
+    ("of_another_log", 20, &[(2, 8), (7, 2)]),
+    ("of_another_key", 20, &[(2, 8), (7, 3)]),
+];
+
+/// Marks under a key of each length, of logs that end in a block and in a part of one, true and false.
+fn for_marks() -> Seeds {
+    let mut seeds = vec![];
+    for (i, key) in KEYS.into_iter().enumerate() {
+        let first = 228 + i as u32;
+        for (log, mark) in [(0, 16), (5, 4), (16, 8), (40, 12)] {
+            let name = format!("mark_{key}_log_{log}");
+            seeds.push((
+                format!("{name}_false"),
+                seed(first, log, &[(2, mark), (7, 1)]),
+            ));
+            seeds.push((name, seed(first, log, &[(2, mark)])));
+        }
+    }
+    let limits = MARKS.map(|(name, log, places)| (format!("mark_{name}"), seed(228, log, places)));
+    seeds.extend(limits);
     seeds
 }
 

@@ -143,7 +143,7 @@ pub fn times(alpha: usize, A: impl Borrow<Bits>) -> Bits {
 
 /// A_1 ... A_m <- A where |A_i| = n for 1 <= i <= m - 1, the rest in A_m.
 /// Place 0 of the list is empty, so that place i holds A_i.
-fn blocks(n: usize, m: usize, A: &Bits) -> Vec<Bits> {
+pub fn blocks(n: usize, m: usize, A: &Bits) -> Vec<Bits> {
     let mut list = vec![zero(0)];
     list.extend((1..m).map(|i| Bits(A.0[(i - 1) * n..i * n].to_vec())));
     list.push(Bits(A.0[(m - 1) * n..].to_vec()));

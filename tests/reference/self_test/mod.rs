@@ -1,6 +1,9 @@
-//! The second implementation held to its own paper.
+//! The second implementation held to its own papers.
 
 mod calls;
+mod cmac;
+mod cmac_examples;
+mod cmac_wrong;
 mod notation;
 mod openings;
 mod round_trips;
@@ -11,7 +14,7 @@ use std::time::Instant;
 
 pub fn self_test(seed: u64) -> Result<(), String> {
     println!("seed {seed}");
-    let parts: [(&str, fn(&mut Random) -> Result<String, String>); 9] = [
+    let parts: [(&str, fn(&mut Random) -> Result<String, String>); 12] = [
         ("AES", |_| {
             Ok(format!("{} values of FIPS 197", aes::self_test()?))
         }),
@@ -23,6 +26,9 @@ pub fn self_test(seed: u64) -> Result<(), String> {
         ("openings, n = 128", openings::openings),
         ("openings, n = 16", openings::small_openings),
         ("damage", round_trips::damage),
+        ("CMAC", cmac::vectors),
+        ("CMAC, wrong readings", cmac_wrong::wrong_readings),
+        ("CMAC, strings", cmac::strings),
     ];
     for (name, part) in parts {
         let start = Instant::now();

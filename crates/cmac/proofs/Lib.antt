@@ -1,0 +1,3 @@
+mod SubkeyLaws
+mod ChainLaws
+mod AnswerLaws

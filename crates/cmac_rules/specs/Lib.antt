@@ -1,0 +1,4 @@
+pub mod Cmac
+pub mod Marks
+pub mod Examples
+pub mod Theorems
