@@ -55,8 +55,8 @@ extern "C" {
 
    A mark tells that somebody with the key marked this log, and nothing more. It hides nothing of
    the log, and says nothing of who reads it. Whoever can check a mark can make one. A log that is
-   sent again passes again: a mark shows no repeat. SP 800-38B, appendix B, bounds the logs that are
-   marked under one key; no call counts them.
+   sent again passes again: a mark shows no repeat. SP 800-38B advises marks of 8 bytes or more
+   (appendix A), and at most 2 to the 48 logs under one key (appendix B); no call counts them.
 
    Each pointer is to as many bytes as its length says. Where that is 0 the pointer is not used, and
    may be NULL or any other. out must not overlap an input, so that nothing is sealed or opened in

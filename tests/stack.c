@@ -1,8 +1,8 @@
-/* The calls on a stack of as many bytes as cba.h says, above memory that cannot be touched: cba_seal
-   and cba_open with every set, each form and the longest text, and with data of several lengths;
-   cmac_make and cmac_check with every length of key and of mark, and logs of several lengths up to
-   the longest. Each case runs in a process of its own, so that its first call is also the one at
-   which the dynamic linker looks for memcpy and memset. On a much smaller stack the same calls must
+/* The calls on a stack of as many bytes as cba.h says, above memory that cannot be touched.
+   cba_seal and cba_open: every set, each form and the longest text, with data of several lengths.
+   cmac_make and cmac_check: every length of key and of mark, with logs of several lengths and the
+   longest. Each case runs in a process of its own, so that its first call is also the one at which
+   the dynamic linker looks for memcpy and memset. On a much smaller stack the same calls must
    crash. */
 #define _GNU_SOURCE
 #include <signal.h>
@@ -225,9 +225,9 @@ int main(void)
     must_crash(OPEN, DATA, CBA_STACK_FOR(0));
     for (enum kind kind = SEAL; kind < KINDS; kind++)
         must_crash(kind, 0, TOO_LITTLE);
-    printf("stack: %d cases, each on as much as cba.h says, %zu bytes for the longest data; sealing and "
-           "opening used at most %zu and %zu, without data %zu and %zu; making and checking a mark "
-           "%zu and %zu; with too little 6 of 6 crash\n",
+    printf("stack: %d cases, each on as much as cba.h says, %zu bytes for the longest data; sealing "
+           "and opening used at most %zu and %zu, without data %zu and %zu; making and checking a "
+           "mark %zu and %zu; with too little 6 of 6 crash\n",
            cases, (size_t)CBA_STACK, measured[SEAL].most, measured[OPEN].most,
            measured[SEAL].most_without_data, measured[OPEN].most_without_data,
            measured[MAKE].most, measured[CHECK].most);

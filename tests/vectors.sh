@@ -1,8 +1,8 @@
 #!/usr/bin/env bash
-# Holds crates/aes_vectors/stdout, the results of FIPS 197's appendices A, B and C, and crates/cmac_vectors/stdout, those
-# of RFC 4493's section 4 and NIST SP 800-38B's appendix D, against openssl. A program of ours must write each file, so a
-# wrong digit in it would be a wrong test: no code of ours takes part here. openssl shows no round keys and no state
-# within a block: of these only the number and the form are checked.
+# Holds the files that programs of ours must write to openssl: crates/aes_vectors/stdout, the results of FIPS 197's
+# appendices A, B and C, and crates/cmac_vectors/stdout, those of RFC 4493's section 4 and of NIST SP 800-38B's
+# appendix D. A wrong digit in them would be a wrong test: no code of ours takes part here. openssl shows no round keys
+# and no state within a block: of these only the number and the form are checked.
 set -euo pipefail
 cd "$(dirname "$(readlink -f "$0")")/.."
 file=crates/aes_vectors/stdout
@@ -59,8 +59,7 @@ for i in 1 2 3; do
 done
 echo "vectors.sh: the ciphertexts and plaintexts of $file are openssl's"
 
-# CMAC: the keys of SP 800-38B are those of FIPS 197's appendix A. The message's first 20 bytes are of NIST's later
-# examples.
+# CMAC. The keys of SP 800-38B are those of FIPS 197's appendix A; the code of 20 bytes is of NIST's later examples.
 file=crates/cmac_vectors/stdout
 message=6bc1bee22e409f96e93d7e117393172aae2d8a571e03ac9c9eb76fac45af8e51
 message+=30c81c46a35ce411e5fbc1191a0a52eff69f2445df4f9b17ad2b417be66c3710
@@ -90,5 +89,5 @@ cmac_lines() {
     done
 }
 
-diff "$file" <(cmac_lines) >&2 || { echo "vectors.sh: $file is not what openssl gives, which is shown by >" >&2; exit 1; }
+diff "$file" <(cmac_lines) >&2 || { echo "vectors.sh: $file: openssl gives the lines after >" >&2; exit 1; }
 echo "vectors.sh: the subkeys and codes of $file are openssl's"

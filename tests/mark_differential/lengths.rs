@@ -105,7 +105,7 @@ pub fn outputs(test: &mut Test) {
     for key in KEYS {
         for mark in MARKS {
             let [key, log] = [key, 21].map(|n| test.random.input(n));
-            for out in [255, 256, 65535, HUGE, HUGE + mark - 1, LONGEST, usize::MAX] {
+            for out in [255, 256, 65535, HUGE, HUGE + mark - 1, LONGEST] {
                 test.make(&key, &log, mark, out);
             }
         }

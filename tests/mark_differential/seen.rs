@@ -16,6 +16,8 @@ pub struct Seen {
     marks: BTreeSet<(Act, usize, usize, u32)>,
     /// The lengths of marks at which 14 meets 7 and no other.
     no_room: BTreeSet<usize>,
+    /// The places of key, log, mark and output that were NULL.
+    nulls: BTreeSet<(Act, usize)>,
 }
 
 impl Seen {
@@ -32,7 +34,13 @@ impl Seen {
         }
     }
 
-    /// Of a call's name and answers.
+    /// The lengths of key, log, mark and output, where what is empty is NULL.
+    pub fn nulls(&mut self, act: Act, lengths: [usize; 4]) {
+        let empty = (0..4).filter(|&i| lengths[i] == 0);
+        self.nulls.extend(empty.map(|i| (act, i)));
+    }
+
+    /// The number of calls with each answer, and what else was counted.
     pub fn show(&self, program: &str) {
         for act in ACTS {
             let of_act = self.answers.iter().filter(|((a, _), _)| *a == act);
@@ -61,6 +69,9 @@ impl Seen {
                 assert!(seen, "{} never answers {answer}", act.name());
             }
             self.every_choice(act);
+            for place in [0, 1, 2, 3] {
+                assert!(self.nulls.contains(&(act, place)), "never NULL");
+            }
             for key in KEYS {
                 self.every_length(act, key);
             }

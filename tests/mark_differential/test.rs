@@ -62,6 +62,10 @@ impl Test {
 
         // What has no bytes may be NULL.
         let nulls = self.random.below(2) == 0;
+        let [key, log, mark_len] = inputs.map(|input| input.len);
+        if nulls {
+            self.seen.nulls(act, [key, log, mark_len, out]);
+        }
         let given = from_fn(|i| match inputs[i].len {
             0 if nulls => (null(), 0),
             len => (unsafe { puts[i].start.add(GUARD) }, len),
@@ -72,7 +76,7 @@ impl Test {
         };
         let found = unsafe { act.call(given, (place, out)) };
 
-        self.seen.call(act, inputs.map(|input| input.len), &faults);
+        self.seen.call(act, [key, log, mark_len], &faults);
         let mut expected = before;
         expected[head..][..mark.len()].copy_from_slice(&mark);
         let kept = puts.iter().all(Put::kept);

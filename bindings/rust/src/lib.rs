@@ -36,12 +36,13 @@
 //! * A key is for sealing or for marks, and never for both: each mode's claim is about a key that nothing else uses.
 //! * A mark of n bytes is guessed with a chance of 256^-n, and each try is a new chance. The one who checks knows n
 //!   and holds the mark's length to it: were it taken from the mark that is sent, a guesser would send one of 4 bytes.
+//! * SP 800-38B advises marks of 8 bytes or more (appendix A), and at most 2^48 logs under one key (appendix B).
+//!   Nothing here counts them.
 //! * No nonce is used twice to seal under one key; a count will do. Whoever sees two ciphertexts under one key and
 //!   nonce learns where blocks of 16 bytes of their messages are the same and the exclusive or of some others of their
 //!   bytes, and may be able to make a ciphertext that opens.
 //! * All sealings under one key use at most [`Set::blocks`] blocks. One uses ⌈data bytes / 16⌉ + ⌈message bytes /
-//!   16⌉, and counts as one where that is 0. Nothing here counts them, nor the logs that are marked under one key,
-//!   which SP 800-38B's appendix B bounds.
+//!   16⌉, and counts as one where that is 0. Nothing here counts them.
 //! * A call needs up to 96 KiB of stack: 16 KiB, and 20 bytes for each byte of data. A mark has no data. This is
 //!   measured, not proved, and a call does not notice that its stack is too small.
 //!

@@ -1,6 +1,6 @@
-//! Fuzzes the library's calls: each input is a sealing and an opening (see recipe.rs), or the making and the checking of
-//! a mark (see recipe_marks.rs), and must give the answer, the result and the output that the reference gives. libFuzzer
-//! calls this; tests/fuzz/run builds it.
+//! Fuzzes the library's calls: each input is a sealing and an opening (see recipe.rs), or the making and the checking
+//! of a mark (see recipe_marks.rs), and must give the answer, the result and the output that the reference gives.
+//! libFuzzer calls this; tests/fuzz/run builds it.
 
 #![no_main]
 #![allow(non_snake_case)] // the papers' names

@@ -14,7 +14,7 @@ const WRONG: [(&str, Reading); 9] = [
         let [_, L_u, L_u2] = pre_processing(K);
         T(K, &L_u2, &L_u, M)
     }),
-    ("the constant 1b, of 64-bit blocks", |K, M| {
+    ("the constant 1b of 64-bit blocks", |K, M| {
         let Constant = cat![zero(BLOCK - 8), i_8(0x1b)];
         let L_u = times_u(&K.E(zero(BLOCK)), &Constant);
         T(K, &L_u, &times_u(&L_u, &Constant), M)
@@ -68,7 +68,7 @@ pub fn wrong_readings(_: &mut Random) -> Result<String, String> {
     }
     let codes = EXAMPLES.len() * LENGTHS.len();
     Ok(format!(
-        "{} refused by some of {codes} codes: {}",
+        "{} refused, each by so many of {codes} codes: {}",
         WRONG.len(),
         said.join(", ")
     ))
