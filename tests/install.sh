@@ -21,10 +21,10 @@ built() { # PREFIX COMPILER.. FILE
 # README.md's lines of C, as the body of a function.
 readme_program() {
     echo '#include <cba.h>'
-    echo 'static uint32_t call(const uint8_t *key, const uint8_t *nonce) {'
+    echo 'static uint32_t call(const uint8_t *key, const uint8_t *nonce, const uint8_t *log_key) {'
     sed -n '/^```c$/,/^```$/ { /^```/!p }' README.md
     echo '}'
-    echo 'int main(void) { return (int)call((const uint8_t[16]){1}, (const uint8_t[12]){2}); }'
+    echo 'int main(void) { return (int)call((const uint8_t[16]){1}, (const uint8_t[12]){2}, (const uint8_t[16]){3}); }'
 }
 
 check_built() { # PREFIX
