@@ -54,7 +54,7 @@ extern "C" {
    capacity, is the hub's to see to.
 
    A mark tells that somebody with the key marked this log, and nothing more. It hides nothing of
-   the log, and says nothing of who reads it. Whoever can check a mark can make one. A log that is
+   the log, and does not tell who marked it: whoever can check a mark can make one. A log that is
    sent again passes again: a mark shows no repeat. SP 800-38B advises marks of 8 bytes or more
    (appendix A), and at most 2 to the 48 logs under one key (appendix B); no call counts them.
 

@@ -1,8 +1,9 @@
 #!/usr/bin/env bash
 # Holds the files that programs of ours must write to openssl: crates/aes_vectors/stdout, the results of FIPS 197's
-# appendices A, B and C, and crates/cmac_vectors/stdout, those of RFC 4493's section 4 and of NIST SP 800-38B's
-# appendix D. A wrong digit in them would be a wrong test: no code of ours takes part here. openssl shows no round keys
-# and no state within a block: of these only the number and the form are checked.
+# appendices A, B and C, and crates/cmac_vectors/stdout, those of RFC 4493's section 4, of NIST SP 800-38B's appendix D
+# and, of 20 bytes, of NIST's later examples. A wrong digit in them would be a wrong test: no code of the library takes
+# part here. openssl shows no round keys and no state within a block: of these only the number and the form are checked.
+# It shows no subkeys of CMAC either: these are its L, doubled here.
 set -euo pipefail
 cd "$(dirname "$(readlink -f "$0")")/.."
 file=crates/aes_vectors/stdout
@@ -59,7 +60,7 @@ for i in 1 2 3; do
 done
 echo "vectors.sh: the ciphertexts and plaintexts of $file are openssl's"
 
-# CMAC. The keys of SP 800-38B are those of FIPS 197's appendix A; the code of 20 bytes is of NIST's later examples.
+# CMAC. The keys of SP 800-38B are those of FIPS 197's appendix A.
 file=crates/cmac_vectors/stdout
 message=6bc1bee22e409f96e93d7e117393172aae2d8a571e03ac9c9eb76fac45af8e51
 message+=30c81c46a35ce411e5fbc1191a0a52eff69f2445df4f9b17ad2b417be66c3710
@@ -90,4 +91,4 @@ cmac_lines() {
 }
 
 diff "$file" <(cmac_lines) >&2 || { echo "vectors.sh: $file: openssl gives the lines after >" >&2; exit 1; }
-echo "vectors.sh: the subkeys and codes of $file are openssl's"
+echo "vectors.sh: L and the codes of $file are openssl's, and the subkeys are that L doubled"

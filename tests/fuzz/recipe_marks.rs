@@ -4,9 +4,11 @@
 //!     byte 0       228 to 239; its remainder by 3 tells the right length of the key
 //!     byte 1       the length of the key, 0 for the right one
 //!     byte 2       the length of the mark
+//!     bytes 3, 4   nothing
 //!     bytes 5, 6   the length of the log
 //!     bytes 7..10  the change before the checking: its kind and its place
 //!     byte 10      the room in the output
+//!     byte 11      nothing
 //!     the rest     the bytes of key, log and mark, over and over
 
 use crate::recipe::{flip, length, near, output, Filler, HEAD};

@@ -69,11 +69,14 @@ impl Seen {
                 assert!(seen, "{} never answers {answer}", act.name());
             }
             self.every_choice(act);
-            for place in [0, 1, 2, 3] {
+            // A making has no mark, and a checking no output.
+            let last = if act == Act::Make { 3 } else { 2 };
+            for place in [0, 1, last] {
                 assert!(self.nulls.contains(&(act, place)), "never NULL");
             }
             for key in KEYS {
                 self.every_length(act, key);
+                self.every_bad_length(act, key, bad_marks);
             }
         }
         // No output is shorter than no mark.
@@ -93,6 +96,14 @@ impl Seen {
                 "{} never meets {faults:?}",
                 act.name()
             );
+        }
+    }
+
+    /// Every length of a mark that must be refused, under a key of one length.
+    fn every_bad_length(&self, act: Act, key: usize, bad_marks: &[usize]) {
+        for &mark in bad_marks {
+            let seen = self.marks.contains(&(act, key, mark, 14));
+            assert!(seen, "no mark of {mark} bytes with 14, a key of {key}");
         }
     }
 

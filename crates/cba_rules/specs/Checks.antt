@@ -39,9 +39,9 @@ stub t ciphertext = record { number = 6; when = ltb ciphertext t }
 abbrev pub noRoom : ℕ → ℕ → Row
 noRoom result out = record { number = 7; when = ltb out result }
 
--- 8, false: no message seals to this ciphertext
+-- 8, false: no message seals to this ciphertext, or a mark is not its log's
 abbrev pub forged : Bool → Row
-forged no-message = record { number = 8; when = no-message }
+forged wrong = record { number = 8; when = wrong }
 
 -- a message and the room for its sealing
 abbrev pub messageRows : ℕ → ℕ → ℕ → List Row

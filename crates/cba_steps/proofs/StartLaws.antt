@@ -1,4 +1,4 @@
--- The first offset and padding, as the code computes them.
+-- Two halves as one number, the first offset and padding, as the code computes them.
 -- Assumes nothing.
 use mathlib.Core.Path.{_≡_, sym, ap, ap₂, _∙_}
 use mathlib.Core.List.{List, _∷_, _++_}

@@ -14,11 +14,11 @@ use Rattle.cmac_rules.specs.Examples.{Subkeys, Figure, makeCalls, rightM
 
 pub subkeys : Subkeys
 unfolding number digits xors shifted double L K1 K2
-subkeys = record { first = refl; second = refl; longer-first = refl; longer-second = refl }
+subkeys = record { of-zeros = λ E. (refl, refl); first = refl; second = refl; longer-first = refl; longer-second = refl }
 
 pub figure : Figure
-unfolding padding blocks chain lastBlock CMAC
-figure = record { empty = λ E. refl; short = λ E x. refl; full = λ E x. refl; three = λ E x y z. refl; more = λ E x y. refl }
+unfolding digits padding blocks chain lastBlock CMAC
+figure = record { empty = λ E. refl; short = λ E v. refl; full = λ E x. refl; three = λ E x y z. refl; more = λ E x v. refl }
 
 -- every number of the rows is in the table of all answers
 pub in-the-table : (allIn (numbers (makeRows [] 0 0 0)) (numbersOf table) ≡ true) × (allIn (numbers (checkRows [] 0 0 true)) (numbersOf table) ≡ true)

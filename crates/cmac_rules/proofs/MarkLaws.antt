@@ -1,7 +1,7 @@
 -- The two calls about marks: what an answer says, and that a making and a checking agree.
 -- Assumes nothing.
 use mathlib.Core.Path.{_≡_, refl, sym, ap, subst, _∙_}
-use mathlib.Core.Bool.{true, false, not, _&&_}
+use mathlib.Core.Bool.{Bool, true, false, not, _&&_}
 use mathlib.Core.List.{List, [], _∷_, _++_}
 use Prim.Native.Nat.{ℕ, _≤_}
 use native.Mathlib.Omega.{arith}
@@ -36,29 +36,49 @@ mark-octets key log n b h k =
     let o = cmac-octets key log b h in
     record { size = length-take n (cmac key log) ∙ omega (arith, o .size); small = bytes-take n (cmac key log) (o .small) }
 
--- ---- the checks that both calls begin with
+-- ---- the rows have numbers of their own
 
 module _ (key : List ℕ) (log n : ℕ) where
-  pub begin-with : (rows : List Row) → Given key log n → Passes rows → Passes (markRows key log n ++ rows)
-  begin-with rows c p = (ap not (c .is-key), (le-ltb 65536 log (c .limit), (rw (le-leb 4 n (c .least), le-leb n 16 (c .most)) refl, p)))
+  pub own-mark : ownNumbers (numbers (markRows key log n)) ≡ true
+  unfolding numbers isIn ownNumbers
+  own-mark = refl
 
-  begun-with : Passes (markRows key log n) → Given key log n
-  begun-with p =
+  own-make : (out : ℕ) → ownNumbers (numbers (makeRows key log n out)) ≡ true
+  unfolding numbers isIn ownNumbers
+  own-make out = refl
+
+  own-check : (wrong : Bool) → ownNumbers (numbers (checkRows key log n wrong)) ≡ true
+  unfolding numbers isIn ownNumbers
+  own-check wrong = refl
+
+  -- ---- the checks that both calls begin with
+
+  pub given-passes : (rows : List Row) → Given key log n → Passes rows → Passes (markRows key log n ++ rows)
+  given-passes rows c p = (ap not (c .is-key), (le-ltb 65536 log (c .limit), (rw (le-leb 4 n (c .least), le-leb n 16 (c .most)) refl, p)))
+
+  passes-given : Passes (markRows key log n) → Given key log n
+  passes-given p =
       let m = both (leb 4 n) (leb n 16) (not-false (leb 4 n && leb n 16) (p .1 .1 .0)) in
       record { is-key = not-false (isKey key) (p .0); limit = ltb-false 65536 log (p .1 .0); least = leb-true 4 n (m .0); most = leb-true n 16 (m .1) }
 
-  pub begun : answer (markRows key log n) ≡ 0 → Given key log n
-  unfolding numbers isIn ownNumbers
-  begun e = begun-with (passed (markRows key log n) refl e)
+  pub answered-given : answer (markRows key log n) ≡ 0 → Given key log n
+  answered-given e = passes-given (passed (markRows key log n) own-mark e)
 
 -- ---- making
 
 module _ (key log : List ℕ) (n : ℕ) (out : List ℕ) where
-  make-accepted : makeAnswer key log n out ≡ 0 → Given key (length log) n × (n ≤ length out)
-  unfolding makeAnswer numbers isIn ownNumbers
+  make-accepts : Given key (length log) n → n ≤ length out → makeAnswer key log n out ≡ 0
+  unfolding makeAnswer
+  make-accepts g h =
+      accepts (makeRows key (length log) n (length out))
+      (given-passes key (length log) n (noRoom n (length out) ∷ []) g (le-ltb (length out) n h, tt))
+
+  make-accepted : makeAnswer key log n out ≡ 0 → Given key (length log) n
+  unfolding makeAnswer
   make-accepted e =
-      let p = passes-parts (markRows key (length log) n) (noRoom n (length out) ∷ []) (passed (makeRows key (length log) n (length out)) refl e) in
-      (begun-with key (length log) n (p .0), ltb-false (length out) n (p .1 .0))
+      passes-given key (length log) n
+      (passes-parts (markRows key (length log) n) (noRoom n (length out) ∷ [])
+      (passed (makeRows key (length log) n (length out)) (own-make key (length log) n (length out)) e) .0)
 
   pub make-untouched : (makeAnswer key log n out ≡ 0 → ⊥) → makeOutput key log n out ≡ out
   unfolding makeOutput
@@ -67,15 +87,16 @@ module _ (key log : List ℕ) (n : ℕ) (out : List ℕ) where
   make-written : makeAnswer key log n out ≡ 0 → Bytes key → makeOutput key log n out ≡ mark key log n ++ drop n out
   unfolding makeOutput
   make-written e b =
-      let c = make-accepted e .0 in
+      let c = make-accepted e in
       rw e (ap (λ (k : ℕ). mark key log n ++ drop k out) (mark-octets key log n b (c .is-key) (c .most) .size))
 
   makes : (r : ℕ) (out′ : List ℕ) → MakeCall key log n out r out′ → Made key log n out r out′
-  unfolding makeAnswer mark numbers isIn ownNumbers
+  unfolding makeAnswer mark
   makes r out′ c =
       let rows = makeRows key (length log) n (length out) in
       record {
-        decides = subst (Decides rows) (sym (c .0)) (decides rows refl);
+        decides = subst (Decides rows) (sym (c .0)) (decides rows (own-make key (length log) n (length out)));
+        accepted = λ g h. c .0 ∙ make-accepts g h;
         untouched = λ h. c .1 ∙ make-untouched (λ z. h (c .0 ∙ z));
         written = λ e b. c .1 ∙ make-written (sym (c .0) ∙ e) b;
       }
@@ -95,42 +116,43 @@ module _ (key log m : List ℕ) where
   unfolding isWrong
   wrong-mark h = ap not (eqs-other m (mark key log (length m)) h)
 
-  check-accepted : checkAnswer key log m ≡ 0 → Given key (length log) (length m) × (m ≡ mark key log (length m))
-  unfolding checkAnswer numbers isIn ownNumbers
-  check-accepted e =
-      let p = passes-parts (markRows key (length log) (length m)) (forged (isWrong key log m) ∷ []) (passed (checkRows key (length log) (length m) (isWrong key log m)) refl e) in
-      (begun-with key (length log) (length m) (p .0), is-right (p .1 .0))
+  abbrev rows : List Row
+  rows = checkRows key (length log) (length m) (isWrong key log m)
+
+  own : ownNumbers (numbers rows) ≡ true
+  own = own-check key (length log) (length m) (isWrong key log m)
+
+  check-accepted : checkAnswer key log m ≡ 0 → m ≡ mark key log (length m)
+  unfolding checkAnswer
+  check-accepted e = is-right (passes-parts (markRows key (length log) (length m)) (forged (isWrong key log m) ∷ []) (passed rows own e) .1 .0)
 
   check-false : checkAnswer key log m ≡ 8 → m ≡ mark key log (length m) → ⊥
-  unfolding checkAnswer numbers isIn ownNumbers
-  check-false e h =
-      let p = refused (markRows key (length log) (length m)) (forged (isWrong key log m)) [] refl e in
-      subst T (sym (p .1) ∙ right-mark h) tt
+  unfolding checkAnswer
+  check-false e h = subst T (sym (refused (markRows key (length log) (length m)) (forged (isWrong key log m)) [] own e .1) ∙ right-mark h) tt
 
   -- where what both calls begin with passes, and n is the length
   module _ {n : ℕ} (e : length m ≡ n) (c : Given key (length log) n) where
-    its-rows : (rows : List Row) → Passes rows → Passes (markRows key (length log) (length m) ++ rows)
-    its-rows rows p = begin-with key (length log) (length m) rows (subst (Given key (length log)) (sym e) c) p
+    begins : (more : List Row) → Passes more → Passes (markRows key (length log) (length m) ++ more)
+    begins more p = given-passes key (length log) (length m) more (subst (Given key (length log)) (sym e) c) p
 
     check-yes : m ≡ mark key log n → checkAnswer key log m ≡ 0
     unfolding checkAnswer
     check-yes h =
-        accepts (checkRows key (length log) (length m) (isWrong key log m))
-        (its-rows (forged (isWrong key log m) ∷ []) (right-mark (h ∙ ap (mark key log) (sym e)), tt))
+        accepts rows
+        (begins (forged (isWrong key log m) ∷ []) (right-mark (h ∙ ap (mark key log) (sym e)), tt))
 
     check-no : (m ≡ mark key log n → ⊥) → checkAnswer key log m ≡ 8
     unfolding checkAnswer
     check-no h =
-        refuses (markRows key (length log) (length m)) (forged (isWrong key log m)) [] (its-rows [] tt)
+        refuses (markRows key (length log) (length m)) (forged (isWrong key log m)) [] (begins [] tt)
         (wrong-mark (λ x. h (x ∙ ap (mark key log) e)))
 
   checks : (r : ℕ) → CheckCall key log m r → Checked key log m r
-  unfolding checkAnswer mark numbers isIn ownNumbers
+  unfolding checkAnswer mark
   checks r c =
-      let rows = checkRows key (length log) (length m) (isWrong key log m) in
       record {
-        decides = subst (Decides rows) (sym c) (decides rows refl);
-        right = λ e. check-accepted (sym c ∙ e) .1;
+        decides = subst (Decides rows) (sym c) (decides rows own);
+        right = λ e. check-accepted (sym c ∙ e);
         yes = λ g h. c ∙ check-yes refl g h;
         wrong = λ e h. check-false (sym c ∙ e) h;
         no = λ g h. c ∙ check-no refl g h;
@@ -151,7 +173,7 @@ mark-theorems =
       size = λ key log b h. cmac-octets key log b h .size;
       agree = λ key log n out r out′ b c e.
           let z : makeAnswer key log n out ≡ 0 = sym (c .0) ∙ e in
-          let a = make-accepted key log n out z .0 in
+          let a = make-accepted key log n out z in
           let l : length (mark key log n) ≡ n = mark-octets key log n b (a .is-key) (a .most) .size in
           let w : take n out′ ≡ mark key log n = rw (c .1, make-written key log n out z b) (take-at (mark key log n) (drop n out) n l) in
           sym (check-yes key log (take n out′) (ap length w ∙ l) a w);

@@ -13,8 +13,8 @@ use Rattle.cba_rules.specs.Checks.{longText, noRoom, forged}
 use Rattle.cmac_rules.specs.Cmac.{mark}
 
 -- 2, key: not of 16, 24 or 32 bytes
-abbrev pub badKey : List ℕ → Row
-badKey key = record { number = 2; when = not (isKey key) }
+abbrev pub badAesKey : List ℕ → Row
+badAesKey key = record { number = 2; when = not (isKey key) }
 
 -- 14, mark: a length outside 4 to 16
 abbrev pub badMark : ℕ → Row
@@ -22,7 +22,7 @@ badMark n = record { number = 14; when = not (leb 4 n && leb n 16) }
 
 -- what both calls begin with: 2, 5, 14
 abbrev pub markRows : List ℕ → ℕ → ℕ → List Row
-markRows key log n = badKey key ∷ longText 65536 log ∷ badMark n ∷ []
+markRows key log n = badAesKey key ∷ longText 65536 log ∷ badMark n ∷ []
 
 -- making: then 7
 abbrev pub makeRows : List ℕ → ℕ → ℕ → ℕ → List Row

@@ -1,4 +1,4 @@
--- What is proved of the two calls about marks, each of document 02's sentences in F-5.
+-- What is proved of the two calls about marks: F-5 of document 02, sentence by sentence.
 -- Assumes nothing.
 use mathlib.Core.Path.{_≡_}
 use mathlib.Core.Bool.{true, false}
@@ -21,15 +21,16 @@ pub record Given (key : List ℕ) (log n : ℕ) : Type 0 where
   pub least : 4 ≤ n
   pub most : n ≤ 16
 
--- making's answer and output, by what a reader of document 02 expects
+-- what a making answers and leaves
 pub record Made (key log : List ℕ) (n : ℕ) (out : List ℕ) (r : ℕ) (out′ : List ℕ) : Type 0 where
   pub decides : Decides (makeRows key (length log) n (length out)) r
+  pub accepted : Given key (length log) n → n ≤ length out → r ≡ 0
   -- a refusal writes nothing
   pub untouched : (r ≡ 0 → ⊥) → out′ ≡ out
   -- the first n bytes of the code, and no byte after them changed
   pub written : r ≡ 0 → Bytes key → out′ ≡ take n (cmac key log) ++ drop n out
 
--- checking's
+-- what a checking answers
 pub record Checked (key log m : List ℕ) (r : ℕ) : Type 0 where
   pub decides : Decides (checkRows key (length log) (length m) (isWrong key log m)) r
   -- yes exactly when the mark given is the code's start of that length

@@ -1,9 +1,10 @@
 // Writes what RFC 4493, section 4, and SP 800-38B, appendix D, have, as our code computes it: for a
-// key of each length L, the subkeys, and the codes of the first 0, 16, 20, 40 and 64 bytes of a
-// message.
+// key of each length, L and the subkeys, and the codes of the first 0, 16, 20, 40 and 64 bytes of a
+// message. The codes of 20 bytes are of NIST's later examples.
 //
-// The file stdout beside src/, which this is held to, was written from the standards and not from a
-// run of this program. tests/vectors.sh holds all of it against openssl at every run of ./test.
+// The file stdout beside src/, which this is held to, was written from these and not from a run of
+// this program. At every run of ./test tests/vectors.sh holds L and the codes against openssl, and
+// the subkeys against its own doubling of that L.
 use libc::STDOUT_FILENO;
 ghost use Prim.Native.Nat.{_≤_};
 ghost use lib.ListN.{length};
@@ -35,11 +36,14 @@ fn print_code(key: &[u8], ctx: &aes::Context, message: &[u8], n: usize)
     requires { ⌜ Encrypts (now key) (now ctx) ⌝ }
     requires { ⌜ n ≤ length (now message) ⌝ }
 {
-    io::print_decimal(STDOUT_FILENO, n as u64);
     let t = cmac::code(key, ctx, &message[..n]);
-    print_line(b"", &t);
+    io::print_decimal(STDOUT_FILENO, n as u64);
+    show::space();
+    show::bytes(&t);
+    show::line_end();
 }
 
+// All lines of a key, under its name.
 fn example(name: &[u8], key: &[u8], message: &[u8])
     requires { ⌜ 64 ≤ length (now message) ⌝ }
 {

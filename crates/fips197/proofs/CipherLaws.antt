@@ -1,4 +1,5 @@
--- InvCipher undoes Cipher and Cipher undoes InvCipher, over every schedule of bytes that is long enough for the rounds.
+-- Cipher gives a block, InvCipher undoes Cipher and Cipher undoes InvCipher, over every schedule of bytes that is long enough for
+-- the rounds.
 -- Assumes nothing.
 use mathlib.Core.Path.{_≡_, ap, ap₂, _∙_}
 use mathlib.Core.List.{List}

@@ -1,4 +1,5 @@
--- AES decryption undoes encryption and encryption undoes decryption, under every key and on every block.
+-- AES decryption undoes encryption and encryption undoes decryption, under every key and on every block. Encryption gives a block
+-- whatever goes in.
 -- Assumes nothing.
 use mathlib.Core.Path.{_≡_}
 use mathlib.Core.Bool.{true}

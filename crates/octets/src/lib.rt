@@ -1,4 +1,4 @@
-// Byte strings: what the cipher and the mode share.
+// Byte strings: what the cipher and the modes share.
 //
 // The definitions are in specs/, the laws about them in proofs/.
 mod compare;

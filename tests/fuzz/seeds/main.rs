@@ -6,7 +6,7 @@
 //!
 //! The exit status is 0, 2 where an argument is wrong, and another where something is missing or cannot be written.
 
-#![allow(non_snake_case)] // the paper's names
+#![allow(non_snake_case)] // the papers' names
 #![allow(dead_code)] // of what the tests share
 
 mod covers;

@@ -30,9 +30,8 @@ pub fn vectors(_: &mut Random) -> Result<String, String> {
     Ok(format!("{values} values of RFC 4493 and SP 800-38B"))
 }
 
-/// A.u, against a division by x^128 + x^7 + x^2 + x + 1; and messages of every
-/// number of bits up to three blocks: a message that ends in what is padded is
-/// another message.
+/// A.u, on numbers of 128 bits instead of strings; and messages of every number of
+/// bits up to three blocks: a message that ends in what is padded is another message.
 pub fn strings(random: &mut Random) -> Result<String, String> {
     let products = 1000;
     for _ in 0..products {

@@ -10,10 +10,11 @@ pub print-code-spec : {M : Type 1} → statement M
 print-code-spec =
     tie.close
     (tie.spec
-    (λ c κs. search needs)
     (λ c. simp length-take (omega arith))
     (λ c κs. search needs)
+    (λ c κs. search needs)
+    (λ c κs. search needs)
     (λ c. search needs)
-    (λ c. search needs)
+    (λ c κs. search needs)
     (λ c κs. search needs)
     (λ c. search needs))

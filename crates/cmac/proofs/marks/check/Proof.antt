@@ -1,13 +1,13 @@
 -- `cmac::marks::check` meets its contract.
 -- Assumes nothing.
-use mathlib.Core.Path.{sym, _∙_}
+use mathlib.Core.Path.{_≡_, sym, _∙_}
 use mathlib.Core.Bool.{cond}
 use native.Mathlib.Omega.{arith}
-use lib.ListN.{length, length-take}
+use lib.ListN.{length, take, length-take}
 use borrow.Author.Needs.{needs}
 use Rattle.cmac_rules.specs.Marks.{CheckCall}
 use Rattle.cmac_rules.specs.Theorems.{Given}
-use Rattle.cmac_rules.proofs.MarkLaws.{begun}
+use Rattle.cmac_rules.proofs.MarkLaws.{answered-given}
 use Rattle.cmac.proofs.AnswerLaws.{check-refused, compared}
 use Rattle.cmac.proofs.marks.check.Statement.{statement}
 use Rattle.cmac.proofs.marks.check.Tie as tie
@@ -19,7 +19,12 @@ returns c =
 
 -- what the checks let pass
 passed : (c : tie.Else1) → let a = c .before .before .before .before .before .args in Given (a .key .now) (length (a .log .now)) (length (a .mark .now))
-passed c = begun _ _ _ (sym (c .before .checks .ensures) ∙ c .if1 .left)
+passed c = answered-given _ _ _ (sym (c .before .checks .ensures) ∙ c .if1 .left)
+
+-- as many bytes of the code as the mark has
+start-size : (c : tie.After-code-under) → let n = length (c .before .before .before .before .before .before .args .mark .now) in
+    length (take n (c .code-under .result)) ≡ n
+start-size c = simp length-take (omega (arith, c .code-under .ok .1 .0 .1, passed (c .before) .most))
 
 -- what the comparison says
 decided : (c : tie.After-same) → let a = c .before .before .before .before .before .before .before .before .args in
@@ -38,7 +43,7 @@ check-spec =
     returns
     (λ c κs. passed c .is-key)
     (λ c. omega (arith, passed (c .before) .most))
-    (λ c. simp length-take (omega (arith, c .before .code-under .ok .1 .0 .1, passed (c .before .before) .most)))
-    (λ c κs. simp length-take (omega (arith, c .before .code-under .ok .1 .0 .1, passed (c .before .before) .most)))
+    (λ c. sym (start-size (c .before)))
+    (λ c κs. sym (start-size (c .before)))
     (λ c. rw (c .if2 .taken) at (decided (c .before)))
     (λ c. rw (c .if2 .left) at (decided (c .before))))

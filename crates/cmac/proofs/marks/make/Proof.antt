@@ -5,7 +5,7 @@ use native.Mathlib.Omega.{arith}
 use lib.ListN.{length, length-take}
 use borrow.Author.Needs.{needs}
 use Rattle.cmac_rules.specs.Theorems.{Given}
-use Rattle.cmac_rules.proofs.MarkLaws.{begun}
+use Rattle.cmac_rules.proofs.MarkLaws.{answered-given}
 use Rattle.cmac.proofs.AnswerLaws.{make-refused, make-no-room, made}
 use Rattle.cmac.proofs.marks.make.Statement.{statement}
 use Rattle.cmac.proofs.marks.make.Tie as tie
@@ -22,7 +22,7 @@ returns-2 c =
 
 -- what the checks let pass
 passed : (c : tie.Else2) → let a = c .before .before .before .before .before .before .args in Given (a .key .now) (length (a .log .now)) (a .n)
-passed c = begun _ _ _ (sym (c .before .before .checks .ensures) ∙ c .before .if1 .left)
+passed c = answered-given _ _ _ (sym (c .before .before .checks .ensures) ∙ c .before .if1 .left)
 
 returns-3 : tie.Need-returns-3
 returns-3 c =
