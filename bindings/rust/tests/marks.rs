@@ -1,25 +1,16 @@
 //! What is marked passes the check, at every length where a block or a limit is near; what was changed does not.
 
+mod inputs;
+
 use cba::{check_mark, mark, mark_into, Error, MAX_LOG, MAX_MARK, MIN_MARK};
+use inputs::{bytes, lengths};
 
 const KEYS: [usize; 3] = [16, 24, 32];
-
-/// All short lengths, and some at which a count of blocks or the log itself ends.
-fn logs() -> impl Iterator<Item = usize> {
-    let long = [255, 256, 257, 4095, 4096, 4097, MAX_LOG - 1, MAX_LOG];
-    (0..=70).chain(long)
-}
-
-fn bytes(len: usize, first: u8) -> Vec<u8> {
-    (0..len)
-        .map(|i| first.wrapping_add((i * 37 + i / 256) as u8))
-        .collect()
-}
 
 #[test]
 fn what_is_marked_passes() {
     for key in KEYS.map(|len| bytes(len, 1)) {
-        for log in logs().map(|len| bytes(len, 2)) {
+        for log in lengths(MAX_LOG).map(|len| bytes(len, 2)) {
             let code = mark(&key, &log, MAX_MARK).expect("marked");
             for len in MIN_MARK..=MAX_MARK {
                 assert_eq!(mark(&key, &log, len).as_deref(), Ok(&code[..len]));

@@ -1,6 +1,9 @@
 //! What is sealed opens, in every set and at every length where a block or a limit is near; what was changed does not.
 
+mod inputs;
+
 use cba::{open, open_into, seal, seal_into, Error, Set, MAX_DATA, MAX_MESSAGE, NONCE_LEN};
+use inputs::{bytes, lengths};
 
 const DATA: [usize; 6] = [0, 1, 15, 16, 17, MAX_DATA];
 
@@ -8,32 +11,11 @@ fn sets() -> impl Iterator<Item = Set> {
     (1..=10).map(|number| Set::new(number).expect("ten sets"))
 }
 
-/// All short lengths, on which the form depends, and some at which a count of blocks or the message itself ends.
-fn messages() -> impl Iterator<Item = usize> {
-    let long = [
-        255,
-        256,
-        257,
-        4095,
-        4096,
-        4097,
-        MAX_MESSAGE - 1,
-        MAX_MESSAGE,
-    ];
-    (0..=70).chain(long)
-}
-
-fn bytes(len: usize, first: u8) -> Vec<u8> {
-    (0..len)
-        .map(|i| first.wrapping_add((i * 37 + i / 256) as u8))
-        .collect()
-}
-
 #[test]
 fn what_is_sealed_opens() {
     for set in sets() {
         let (n, key, nonce) = (set.number(), bytes(set.key_len(), 1), bytes(NONCE_LEN, 2));
-        for (i, len) in messages().enumerate() {
+        for (i, len) in lengths(MAX_MESSAGE).enumerate() {
             let (data, message) = (bytes(DATA[i % DATA.len()], 3), bytes(len, 4));
             let sealed = seal(n, &key, &nonce, &data, &message).expect("sealed");
             assert_eq!(sealed.len(), len + set.tag_len());
