@@ -14,7 +14,7 @@ use Rattle.answers.proofs.RowLaws.{stops, goes-on, refuses, accepts}
 use Rattle.fips197.specs.Schedule.{isKey}
 use Rattle.cba_rules.specs.Checks.{longText, noRoom, forged}
 use Rattle.cmac_rules.specs.Cmac.{cmac, mark}
-use Rattle.cmac_rules.specs.Marks.{badAesKey, badMark, markRows, makeAnswer, makeOutput, isWrong, checkAnswer, MakeCall, CheckCall}
+use Rattle.cmac_rules.specs.Marks.{badAesKey, badMark, markRows, makeAnswer, makeOutput, isStart, isWrong, checkAnswer, MakeCall, CheckCall}
 use Rattle.cmac_rules.proofs.MarkLaws.{own-mark, given-passes, make-untouched}
 
 -- ---- what both calls begin with
@@ -72,7 +72,7 @@ module _ (key log m : List ℕ) {r : ℕ} (e : r ≡ answer (markRows key (lengt
 
   -- b is what the comparison says
   pub compared : (t : List ℕ) {b : Bool} → r ≡ 0 → t ≡ cmac key log → b ≡ eqs m (take (length m) t) → CheckCall key log m (cond b 0 8)
-  unfolding checkAnswer isWrong mark
+  unfolding checkAnswer isStart isWrong mark
   compared t {b} z f g =
       goes-on (markRows key (length log) (length m)) (forged (isWrong key log m) ∷ []) (own-mark key (length log) (length m)) e z
       (go b (g ∙ ap (λ (x : List ℕ). eqs m (take (length m) x)) f))

@@ -9,8 +9,8 @@ use Rattle.answers.specs.Rows.{answer, numbers, isIn, allIn}
 use Rattle.answers.specs.Table.{table, numbersOf}
 use Rattle.fips197.specs.Schedule.{isKey}
 use Rattle.cmac_rules.specs.Cmac.{shifted, double, padding, blocks, L, K1, K2, chain, lastBlock, CMAC}
-use Rattle.cmac_rules.specs.Marks.{makeRows, checkRows}
-use Rattle.cmac_rules.specs.Examples.{Subkeys, Figure, makeCalls, rightMarks, wrongMarks, makesSo, checksSo}
+use Rattle.cmac_rules.specs.Marks.{makeRows, checkRows, isStart}
+use Rattle.cmac_rules.specs.Examples.{Subkeys, Figure, Starts, makeCalls, rightMarks, wrongMarks, makesSo, checksSo}
 
 pub subkeys : Subkeys
 unfolding number digits xors shifted double L K1 K2
@@ -19,6 +19,10 @@ subkeys = record { of-zeros = λ E. (refl, refl); first = refl; second = refl; l
 pub figure : Figure
 unfolding digits padding blocks chain lastBlock CMAC
 figure = record { empty = λ E. refl; short = λ E v. refl; full = λ E x. refl; three = λ E x y z. refl; more = λ E x v. refl }
+
+pub starts : Starts
+unfolding isStart
+starts = record { short = refl; whole = refl; other-first = refl; other-middle = refl; other-last = refl; within = refl; longer = refl }
 
 -- every number of the rows is in the table of all answers
 pub in-the-table : (allIn (numbers (makeRows [] 0 0 0)) (numbersOf table) ≡ true) × (allIn (numbers (checkRows [] 0 0 true)) (numbersOf table) ≡ true)

@@ -20,8 +20,8 @@ use Rattle.fips197.specs.Schedule.{isKey}
 use Rattle.fips197.proofs.Inverses.{encrypted-octets}
 use Rattle.cba_rules.specs.Checks.{noRoom, forged}
 use Rattle.cmac_rules.specs.Cmac.{CMAC, cmac, mark}
-use Rattle.cmac_rules.specs.Marks.{markRows, makeRows, checkRows, makeAnswer, makeOutput, isWrong, checkAnswer, MakeCall, CheckCall}
-use Rattle.cmac_rules.proofs.Examples.{subkeys, figure, making-examples, checking-examples}
+use Rattle.cmac_rules.specs.Marks.{markRows, makeRows, checkRows, makeAnswer, makeOutput, isStart, isWrong, checkAnswer, MakeCall, CheckCall}
+use Rattle.cmac_rules.proofs.Examples.{subkeys, figure, starts, making-examples, checking-examples}
 use Rattle.cmac_rules.specs.Theorems.{Given, Made, Checked, MarkTheorems}
 
 -- ---- lengths
@@ -105,15 +105,15 @@ module _ (key log : List ℕ) (n : ℕ) (out : List ℕ) where
 
 module _ (key log m : List ℕ) where
   is-right : isWrong key log m ≡ false → m ≡ mark key log (length m)
-  unfolding isWrong
+  unfolding isStart isWrong mark
   is-right e = eqs→eq m (mark key log (length m)) (subst T (sym (not-false (eqs m (mark key log (length m))) e)) tt)
 
   right-mark : m ≡ mark key log (length m) → isWrong key log m ≡ false
-  unfolding isWrong
+  unfolding isStart isWrong mark
   right-mark e = ap (λ (x : List ℕ). not (eqs m x)) (sym e) ∙ ap not (eqs-same m)
 
   wrong-mark : (m ≡ mark key log (length m) → ⊥) → isWrong key log m ≡ true
-  unfolding isWrong
+  unfolding isStart isWrong mark
   wrong-mark h = ap not (eqs-other m (mark key log (length m)) h)
 
   abbrev rows : List Row
@@ -166,6 +166,7 @@ mark-theorems =
     record {
       subkeys = subkeys;
       figure = figure;
+      starts = starts;
       making-examples = making-examples;
       checking-examples = checking-examples;
       makes = makes;

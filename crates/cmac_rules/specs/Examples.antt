@@ -1,8 +1,8 @@
--- Examples: RFC 4493's subkeys, the code of logs of few blocks written out over any cipher, and example calls by their lengths. A
--- wrong definition or a wrong order of checks shows here.
+-- Examples: RFC 4493's subkeys, the code of logs of few blocks written out over any cipher, marks beside a code, and example calls by
+-- their lengths. A wrong definition or a wrong order of checks shows here.
 -- Assumes nothing.
 use mathlib.Core.Path.{_≡_}
-use mathlib.Core.Bool.{Bool, true, _&&_}
+use mathlib.Core.Bool.{Bool, true, false, _&&_}
 use mathlib.Core.List.{List, [], _∷_, _++_}
 use Prim.Native.Nat.{ℕ}
 use lib.Dec.{eqb}
@@ -11,7 +11,7 @@ use Rattle.octets.specs.Xor.{xors}
 use Rattle.octets.specs.Numbers.{digits}
 use Rattle.answers.specs.Rows.{answer}
 use Rattle.cmac_rules.specs.Cmac.{double, K1, K2, CMAC}
-use Rattle.cmac_rules.specs.Marks.{makeRows, checkRows}
+use Rattle.cmac_rules.specs.Marks.{makeRows, checkRows, isStart}
 
 -- the subkeys are twice E(0^128) and twice that; RFC 4493's, section 4, where AES gives this L, and SP 800-38B's for its key of 256 bits
 pub record Subkeys : Type 1 where
@@ -34,6 +34,17 @@ pub record Figure : Type 1 where
       ≡ E (xors (xors (digits 16 z) (K1 E)) (E (xors (E (xors (replicate 16 0) (digits 16 x))) (digits 16 y))))
   pub more : (E : List ℕ → List ℕ) (x v : ℕ) → CMAC E (digits 16 x ++ (v ∷ []))
       ≡ E (xors (xors (v ∷ 0x80 ∷ replicate 14 0) (K2 E)) (E (xors (replicate 16 0) (digits 16 x))))
+
+-- marks beside a code, of six bytes to be short: its start and the whole; another first, middle and last byte; bytes from within; one
+-- more
+pub record Starts : Type 0 where
+  pub short : isStart (1 ∷ 2 ∷ 3 ∷ 4 ∷ []) (1 ∷ 2 ∷ 3 ∷ 4 ∷ 5 ∷ 6 ∷ []) ≡ true
+  pub whole : isStart (1 ∷ 2 ∷ 3 ∷ 4 ∷ 5 ∷ 6 ∷ []) (1 ∷ 2 ∷ 3 ∷ 4 ∷ 5 ∷ 6 ∷ []) ≡ true
+  pub other-first : isStart (0 ∷ 2 ∷ 3 ∷ 4 ∷ []) (1 ∷ 2 ∷ 3 ∷ 4 ∷ 5 ∷ 6 ∷ []) ≡ false
+  pub other-middle : isStart (1 ∷ 2 ∷ 0 ∷ 4 ∷ []) (1 ∷ 2 ∷ 3 ∷ 4 ∷ 5 ∷ 6 ∷ []) ≡ false
+  pub other-last : isStart (1 ∷ 2 ∷ 3 ∷ 0 ∷ []) (1 ∷ 2 ∷ 3 ∷ 4 ∷ 5 ∷ 6 ∷ []) ≡ false
+  pub within : isStart (2 ∷ 3 ∷ 4 ∷ 5 ∷ []) (1 ∷ 2 ∷ 3 ∷ 4 ∷ 5 ∷ 6 ∷ []) ≡ false
+  pub longer : isStart (1 ∷ 2 ∷ 3 ∷ 4 ∷ 5 ∷ 6 ∷ 7 ∷ []) (1 ∷ 2 ∷ 3 ∷ 4 ∷ 5 ∷ 6 ∷ []) ≡ false
 
 -- the answer, then key, log, mark and room
 abbrev pub makeCalls : List (List ℕ)

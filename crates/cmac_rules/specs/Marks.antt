@@ -5,12 +5,12 @@ use mathlib.Core.Bool.{Bool, cond, not, _&&_}
 use mathlib.Core.List.{List, [], _∷_, _++_}
 use Prim.Native.Nat.{ℕ}
 use lib.Dec.{eqb, leb}
-use lib.ListN.{length}
+use lib.ListN.{length, take}
 use Rattle.octets.specs.Strings.{over, eqs}
 use Rattle.answers.specs.Rows.{Row, answer}
 use Rattle.fips197.specs.Schedule.{isKey}
 use Rattle.cba_rules.specs.Checks.{longText, noRoom, forged}
-use Rattle.cmac_rules.specs.Cmac.{mark}
+use Rattle.cmac_rules.specs.Cmac.{cmac, mark}
 
 -- 2, key: not of 16, 24 or 32 bytes
 abbrev pub badAesKey : List ℕ → Row
@@ -39,9 +39,13 @@ makeAnswer key log n out = answer (makeRows key (length log) n (length out))
 unfoldable pub makeOutput : List ℕ → List ℕ → ℕ → List ℕ → List ℕ
 makeOutput key log n out = cond (eqb (makeAnswer key log n out) 0) (over (mark key log n) out) out
 
--- m is not the log's mark of its length
+-- m is the start of t, of m's own length
+unfoldable pub isStart : List ℕ → List ℕ → Bool
+isStart m t = eqs m (take (length m) t)
+
+-- m is not the start of the log's code
 unfoldable pub isWrong : List ℕ → List ℕ → List ℕ → Bool
-isWrong key log m = not (eqs m (mark key log (length m)))
+isWrong key log m = not (isStart m (cmac key log))
 
 unfoldable pub checkAnswer : List ℕ → List ℕ → List ℕ → ℕ
 checkAnswer key log m = answer (checkRows key (length log) (length m) (isWrong key log m))

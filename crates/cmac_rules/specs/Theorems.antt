@@ -12,7 +12,7 @@ use Rattle.answers.specs.Rows.{Decides}
 use Rattle.fips197.specs.Schedule.{isKey}
 use Rattle.cmac_rules.specs.Cmac.{cmac}
 use Rattle.cmac_rules.specs.Marks.{makeRows, checkRows, isWrong, checkAnswer, MakeCall, CheckCall}
-use Rattle.cmac_rules.specs.Examples.{Subkeys, Figure, makeCalls, rightMarks, wrongMarks, makesSo, checksSo}
+use Rattle.cmac_rules.specs.Examples.{Subkeys, Figure, Starts, makeCalls, rightMarks, wrongMarks, makesSo, checksSo}
 
 -- a key of 16, 24 or 32 bytes, a log of at most 65,536, and a mark of 4 to 16
 pub record Given (key : List ℕ) (log n : ℕ) : Type 0 where
@@ -44,6 +44,7 @@ pub record MarkTheorems : Type 1 where
   -- the examples of specs/Examples
   pub subkeys : Subkeys
   pub figure : Figure
+  pub starts : Starts
   pub making-examples : makesSo makeCalls ≡ true
   pub checking-examples : (checksSo false rightMarks ≡ true) × (checksSo true wrongMarks ≡ true)
   -- what each call answers and leaves
