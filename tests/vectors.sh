@@ -3,7 +3,8 @@
 # appendices A, B and C, and crates/cmac_vectors/stdout, those of RFC 4493's section 4, of NIST SP 800-38B's appendix D
 # and, of 20 bytes, of NIST's later examples. A wrong digit in them would be a wrong test: no code of the library takes
 # part here. openssl shows no round keys and no state within a block: of these only the number and the form are checked.
-# It shows no subkeys of CMAC either: these are its L, doubled here.
+# The equivalent inverse cipher's state before its last step is checked too, and all its states are held to the second
+# implementation by the step `rows` of ./test. openssl shows no subkeys of CMAC either: these are its L, doubled here.
 set -euo pipefail
 cd "$(dirname "$(readlink -f "$0")")/.."
 file=crates/aes_vectors/stdout
@@ -22,6 +23,8 @@ same() { # WHAT EXPECTED FOUND
 
 bytes() { printf '%b' "$(sed 's/../\\x&/g' <<<"$1")"; } # HEX
 
+xor() { printf '%016x%016x' $((16#${1:0:16} ^ 16#${2:0:16})) $((16#${1:16} ^ 16#${2:16})); } # BLOCK BLOCK
+
 # openssl's AES of one block, in hex.
 ecb() { # KEY BLOCK [-d]
     bytes "$2" | openssl enc "-aes-$((${#1} * 4))-ecb" -nopad -nosalt -K "$1" "${@:3}" | od -An -v -tx1 | tr -d ' \n'
@@ -38,8 +41,16 @@ rounds() { # HEADING COUNT FORM
     same "well-formed rows of $1" "$2" "$(rows "$1" | grep -Ecx "[0-9]+$3" || true)"
 }
 
-# Four headings, their rounds, the three lines of C, and nothing else.
-same "lines of $file" $((4 + 11 + 13 + 15 + 11 + 3)) "$(wc -l <"$file")"
+# Four rows for each round, numbered from 1, with the standard's labels.
+steps() { # HEADING ROUNDS
+    local labels
+    labels=$(for n in $(seq "$2"); do echo "$n istart $n is_box $n is_row $n im_col"; done | sed '$s/im_col/ioutput/')
+    same "steps of $1" "$(paste -sd ' ' <<<"$labels")" "$(rows "$1" | cut -d ' ' -f 1,2 | paste -sd ' ')"
+    same "well-formed rows of $1" $((4 * $2)) "$(rows "$1" | grep -Ecx '[0-9]+ [a-z_]+ [0-9a-f]{32}' || true)"
+}
+
+# Four headings, their rounds, the three lines of C, three headings, their steps, and nothing else.
+same "lines of $file" $((4 + 11 + 13 + 15 + 11 + 3 + 3 + 40 + 48 + 56)) "$(wc -l <"$file")"
 
 for i in 0 1 2; do
     rounds "A.$((i + 1)) ${a_keys[i]}" $((11 + 2 * i)) '( [0-9a-f]{8}){4}'
@@ -50,13 +61,17 @@ cipher=$(rows "B $b_plain" | sed -n 's/^10 //p')
 same "B, encrypted" "$(ecb "${a_keys[0]}" $b_plain)" "$cipher"
 same "B, decrypted" $b_plain "$(ecb "${a_keys[0]}" "$cipher" -d)"
 
-same "lines of C" "C.1 C.2 C.3" "$(grep '^C' "$file" | cut -d ' ' -f 1 | paste -sd ' ')"
+same "lines of C" "C.1 C.2 C.3 C.1 C.2 C.3" "$(grep '^C' "$file" | cut -d ' ' -f 1 | paste -sd ' ')"
 for i in 1 2 3; do
     key=${c_key:0:16+16*i}
-    read -r cipher plain <<<"$(sed -n "s/^C\.$i //p" "$file")"
+    read -r cipher plain <<<"$(sed -n "/EqInvCipher/!s/^C\.$i //p" "$file")"
     same "C.$i, encrypted" "$(ecb "$key" $c_plain)" "$cipher"
     same "C.$i, decrypted" "$(ecb "$key" "$cipher" -d)" "$plain"
     same "C.$i, its plaintext" $c_plain "$plain"
+    heading="C.$i EqInvCipher $cipher"
+    steps "$heading" $((8 + 2 * i))
+    # The last step adds round key 0, the start of the key, and gives the plaintext.
+    same "$heading, its end" "$(xor "$plain" "${key:0:32}") $plain" "$(rows "$heading" | tail -n 2 | cut -d ' ' -f 3 | paste -sd ' ')"
 done
 echo "vectors.sh: the ciphertexts and plaintexts of $file are openssl's"
 

@@ -7,6 +7,7 @@
 //!   /tmp/reference ta-records SEED COUNT
 //!   /tmp/reference ta-tags SEED COUNT
 //!   /tmp/reference toy
+//!   /tmp/reference aes-traces
 //!   /tmp/reference seal SEED COUNT
 //!   /tmp/reference seal FILE
 //!   /tmp/reference open FILE
@@ -28,6 +29,7 @@ macro_rules! ensure {
 mod by_rule;
 mod ciphers;
 mod cmac;
+mod equivalent;
 mod form;
 mod hub;
 mod mode;
@@ -39,6 +41,7 @@ mod values;
 mod vectors;
 
 use by_rule::{by_lines, open_line, seal_line};
+use equivalent::print_traces;
 use hub::hub;
 use self_test::self_test;
 use toy::print_toy;
@@ -51,6 +54,7 @@ usage: reference self-test [SEED]
        reference ta-records SEED COUNT  write the same for crates/cba_vectors: set, lengths, key, data
        reference ta-tags SEED COUNT     print the tags T_A of these records, a line each
        reference toy                    print lines over a toy cipher: tau b nonce data message ciphertext
+       reference aes-traces             print the states of AES's EqInvCipher on FIPS 197's appendix C
        reference seal SEED COUNT        print lines: set key nonce data message ciphertext
        reference seal FILE              seal by lines: set data-length message-length
        reference open FILE              open by lines: set data-length message-length change";
@@ -74,6 +78,7 @@ fn main() {
             number(seed).and_then(|s| print_ta(Ta::Tags, s, number(count)?))
         }
         ["toy"] => print_toy(),
+        ["aes-traces"] => print_traces(),
         ["seal", file] => by_lines(file, seal_line),
         ["open", file] => by_lines(file, open_line),
         ["seal", seed, count] => number(seed).and_then(|s| print_seal(s, number(count)?)),

@@ -1,22 +1,27 @@
 -- The context as it is made, and as the rounds read it.
 -- Assumes nothing.
 use mathlib.Core.Path.{_≡_, refl, ap, _∙_}
-use mathlib.Core.Bool.{true, false}
+use mathlib.Core.Bool.{Bool, true, false, cond}
 use mathlib.Core.List.{List, [], _++_, append-nil, append-assoc}
-use Prim.Native.Nat.{ℕ, _+_, _-_, _*_, _/_, _≤_}
+use Prim.Native.Nat.{ℕ, suc, _+_, _-_, _*_, _<_, _≤_}
 use native.Mathlib.Omega.{arith}
+use lib.Dec.{eqb}
 use lib.ListN.{length, take, drop, replicate, length-append, length-drop, drop-of-length-le}
 use lib.Seq.{take-at, drop-at}
-use Rattle.octets.specs.Strings.{table, over}
+use Rattle.octets.specs.Strings.{Bytes, table, over}
 use Rattle.octets.proofs.Strings.{length-table}
 use Rattle.octets.proofs.Parts.{to-end}
 use Rattle.field.specs.SBox.{invSBox}
 use Rattle.aes_tables.specs.Round.{entry, inverseEntry, entries, forward, inverses}
 use Rattle.aes_tables.proofs.RoundLaws.{length-entry, length-inverseEntry, length-entries}
 use Rattle.fips197.specs.Schedule.{isKey, keyExpansion}
+use Rattle.fips197.specs.Equivalent.{keyExpansionEIC}
+use Rattle.fips197.specs.Cipher.{keyRounds}
+use Rattle.fips197.proofs.ScheduleLaws.{key-words, keyExpansion-octets}
+use Rattle.fips197.proofs.Equivalent.{length-EIC}
 use Rattle.aes.specs.Tables.{Entries}
 use Rattle.aes.proofs.TableLaws.{table-entries}
-use Rattle.aes.specs.Context.{roundKeys, blankOf, Holds, Encrypts, Decrypts, KeysAt, answer, answered}
+use Rattle.aes.specs.Context.{held, blankOf, Holds, Encrypts, Decrypts, scheduleAt, KeysAt, answer, answered}
 
 pub length-forward : length forward ≡ 2048
 length-forward = length-entries entry length-entry 0 256
@@ -42,22 +47,26 @@ context-made tables n s ctx last l e p =
 pub blank-long : (tables : List ℕ) (n : ℕ) (ctx : List ℕ) → length tables ≡ n → ctx ≡ blankOf tables → length ctx ≡ n + 240
 blank-long tables n ctx l e = ap length e ∙ length-append tables (replicate 240 0) ∙ omega arith
 
-module _ (tables key ctx : List ℕ) (h : Holds tables key ctx) (n : ℕ) (l : length tables ≡ n) where
-  parts : (take n ctx ≡ tables) × (drop n ctx ≡ roundKeys key)
-  parts = cut ctx tables (roundKeys key) n (h .context) l
-
-  pub keys-at : n ≤ 2304 → KeysAt n key ctx
-  keys-at k = record { good = h .good; within = k; stand = parts .1 }
+module _ (tables w key ctx : List ℕ) (h : Holds tables w key ctx) (n : ℕ) (l : length tables ≡ n) where
+  parts : (take n ctx ≡ tables) × (drop n ctx ≡ held w)
+  parts = cut ctx tables (held w) n (h .context) l
 
   pub holds-long : n ≤ length ctx
-  holds-long = omega (arith, ap length (h .context), length-append tables (roundKeys key))
+  holds-long = omega (arith, ap length (h .context), length-append tables (held w))
 
--- the round keys copied over as many zeros
-pub keys-copied : (key ctx : List ℕ) → Encrypts key ctx → length ctx ≡ 2288 → over (take (length ctx - 2048) (drop 2048 ctx)) (replicate 240 0) ≡ roundKeys key
-keys-copied key ctx h l =
-    let q = parts forward key ctx h 2048 length-forward in
-    let k : length (roundKeys key) ≡ 240 = omega (arith, ap length (h .context), length-append forward (roundKeys key), length-forward) in
-    rw (to-end ctx 2048, q .1, k) (append-nil (roundKeys key))
+-- the schedule behind the tables of each context
+pub encrypts-keys : (key ctx : List ℕ) → Encrypts key ctx → KeysAt 2048 key ctx
+encrypts-keys key ctx h = record { good = h .good; within = omega arith; stand = parts forward _ key ctx h 2048 length-forward .1 }
+
+pub decrypts-keys : (key inv : List ℕ) → Decrypts key inv → KeysAt 2304 key inv
+decrypts-keys key inv h = record { good = h .good; within = omega arith; stand = parts inverses _ key inv h 2304 length-inverses .1 }
+
+pub length-schedule : (at : ℕ) (key : List ℕ) → Bytes key → isKey key ≡ true → length (scheduleAt at key) ≡ 16 * suc (keyRounds key)
+length-schedule at key b h = either (eqb at 2048) (keyExpansion key) (keyExpansionEIC key) (keyExpansion-octets key b (key-words key h) .size ∙ omega arith) (length-EIC key b h)
+  where
+    either : (t : Bool) (x y : List ℕ) {n : ℕ} → length x ≡ n → length y ≡ n → length (cond t x y) ≡ n
+    either true x y p q = p
+    either false x y p q = q
 
 -- a key that is good, and one that is not
 pub answer-good : (key : List ℕ) → isKey key ≡ true → 0 ≡ answer key
@@ -79,27 +88,28 @@ answered-bad f key s h = rw h
 -- ---- the parts that the rounds read
 
 pub context-table : (key ctx : List ℕ) → Encrypts key ctx → Entries entry (take 2048 ctx)
-context-table key ctx h = table-entries entry length-entry _ (parts forward key ctx h 2048 length-forward .0)
+context-table key ctx h = table-entries entry length-entry _ (parts forward _ key ctx h 2048 length-forward .0)
 
--- of a key, whose schedule has 16 (Nr + 1) bytes
-pub context-keys : (key ctx : List ℕ) (at : ℕ) → KeysAt at key ctx → length (keyExpansion key) ≡ 16 * (length key / 4 + 7) → (n : ℕ) → n ≡ 16 * (length key / 4 + 6) + 16 →
-    (take (at + n - at) (drop at ctx) ≡ keyExpansion key) × (at + n ≤ length ctx)
-unfolding roundKeys
-context-keys key ctx at h l n e =
-    let w = keyExpansion key in
+-- a schedule of n bytes
+pub context-keys : (key ctx : List ℕ) (at : ℕ) → KeysAt at key ctx → (n : ℕ) → 0 < n → n ≡ length (scheduleAt at key) →
+    (take (at + n - at) (drop at ctx) ≡ scheduleAt at key) × (at + n ≤ length ctx)
+unfolding held
+context-keys key ctx at h n some e =
+    let w = scheduleAt at key in
     let m : at + n - at ≡ length w = omega arith in
     let long : length w ≤ length ctx - at =
     omega (arith, ap length (h .stand), length-append w (drop (length w) (replicate 240 0)), length-drop at ctx) in
     (ap (λ (k : ℕ). take k (drop at ctx)) m ∙ cut (drop at ctx) w _ (length w) (h .stand) refl .0, omega arith)
 
-module _ (key inv : List ℕ) (h : Decrypts key inv) where
-  at-inverse : (take 2048 inv ≡ entries inverseEntry 0 256) × (drop 2048 inv ≡ table invSBox 256 ++ roundKeys key)
-  at-inverse =
-      cut inv (entries inverseEntry 0 256) (table invSBox 256 ++ roundKeys key) 2048 (h .context ∙ append-assoc (entries inverseEntry 0 256) (table invSBox 256) (roundKeys key))
+-- the tables of decryption, and what stands behind them
+module _ (inv rest : List ℕ) (e : inv ≡ inverses ++ rest) where
+  behind : (take 2048 inv ≡ entries inverseEntry 0 256) × (drop 2048 inv ≡ table invSBox 256 ++ rest)
+  behind =
+      cut inv (entries inverseEntry 0 256) (table invSBox 256 ++ rest) 2048 (e ∙ append-assoc (entries inverseEntry 0 256) (table invSBox 256) rest)
       (length-entries inverseEntry length-inverseEntry 0 256)
 
   pub inverse-first : Entries inverseEntry (take 2048 inv)
-  inverse-first = table-entries inverseEntry length-inverseEntry _ (at-inverse .0)
+  inverse-first = table-entries inverseEntry length-inverseEntry _ (behind .0)
 
   pub inverse-second : take 256 (drop 2048 inv) ≡ table invSBox 256
-  inverse-second = cut (drop 2048 inv) (table invSBox 256) (roundKeys key) 256 (at-inverse .1) (length-table invSBox 256) .0
+  inverse-second = cut (drop 2048 inv) (table invSBox 256) rest 256 (behind .1) (length-table invSBox 256) .0

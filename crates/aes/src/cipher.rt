@@ -9,6 +9,7 @@ use crate::table::sub_shift;
 use crate::table::sub_shift_mix;
 use aes_schedule::Words;
 use aes_schedule::read;
+use aes_schedule::words_at;
 use aes_schedule::write;
 ghost use mathlib.Core.Path.{_≡_};
 ghost use Prim.Native.Nat.{_*_, _≤_, _<_, suc};
@@ -86,12 +87,5 @@ pub fn round_key(key: &[u8], ctx: &Context, n: usize) -> [u8; 16]
     requires { ⌜ n ≤ keyRounds (now key) ⌝ }
     ensures { λ r. ⌜ r ≡ block 16 (keyExpansion (now (key .entry))) n ⌝ }
 {
-    let c = &ctx[..];
-    let zeros = Words {
-        a: 0,
-        b: 0,
-        c: 0,
-        d: 0,
-    };
-    write(add_key(round_keys(key, c, KEYS), n, zeros))
+    write(words_at(round_keys(key, &ctx[..], KEYS), 16 * n))
 }

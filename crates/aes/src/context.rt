@@ -1,7 +1,9 @@
 // What a call that uses a key holds of it, in arrays that the caller owns and lends: a context for
 // encryption, and one for decryption. Each has the tables that its rounds read, and the round keys
 // after them. A call that only encrypts stores no table of decryption.
+use crate::inverse_keys::inv_mix_key;
 use aes_schedule::expand;
+use aes_schedule::write;
 ghost use mathlib.Core.Path.{_≡_};
 ghost use mathlib.Core.Bool.{true};
 ghost use Prim.Native.Nat.{_*_, _≤_, suc};
@@ -9,9 +11,9 @@ ghost use lib.ListN.{length};
 ghost use Rattle.octets.specs.Strings.{table};
 ghost use Rattle.field.specs.SBox.{invSBox};
 ghost use Rattle.aes_tables.specs.Round.{entry, inverseEntry, forward, inverses};
-ghost use Rattle.fips197.specs.Schedule.{isKey, keyExpansion};
+ghost use Rattle.fips197.specs.Schedule.{isKey};
 ghost use Rattle.fips197.specs.Cipher.{keyRounds};
-ghost use Rattle.aes.specs.Context.{blankOf, Encrypts, Decrypts, KeysAt};
+ghost use Rattle.aes.specs.Context.{blankOf, Encrypts, Decrypts, scheduleAt, KeysAt};
 ghost use Rattle.aes.specs.Tables.{Entries};
 
 pub type Context = [u8; 2288];
@@ -64,14 +66,24 @@ pub fn fill(key: &[u8], ctx: &mut [u8])
     expand(key, &s, &mut ctx[KEYS..]);
 }
 
-// Fills a blank context for decryption, from the key's context.
+// Fills a blank context for decryption, from the key's context: the schedule, with InvMixColumns on
+// the round keys between the first and the last.
 pub fn fill_inverse(key: &[u8], ctx: &Context, inv: &mut [u8])
     requires { ⌜ Encrypts (now key) (now ctx) ⌝ }
     requires { ⌜ now inv ≡ blankOf inverses ⌝ }
     ensures { λ _. ⌜ Decrypts (now (key .entry)) (now (inv .exit)) ⌝ }
 {
     let c = &ctx[..];
-    octets::put(&mut inv[INVERSE_KEYS..], &c[KEYS..]);
+    let t = round_table(key, c);
+    let w = round_keys(key, c, KEYS);
+    let nr = rounds_of(key);
+    octets::put(&mut inv[INVERSE_KEYS..], w);
+    let mut i = 0;
+    while i < nr - 1 {
+        let m = write(inv_mix_key(t, &inv[..INVERSE_BOX], w, i + 1));
+        octets::put(&mut inv[INVERSE_KEYS + 16 * (i + 1)..], &m);
+        i += 1;
+    }
 }
 
 // The parts that the rounds read.
@@ -83,10 +95,10 @@ pub fn round_table<'a>(key: &[u8], ctx: &'a [u8]) -> &'a [u8]
     &ctx[..KEYS]
 }
 
-// The round keys, from their place on.
+// The schedule, from its place on.
 pub fn round_keys<'a>(key: &[u8], ctx: &'a [u8], at: usize) -> &'a [u8]
     requires { ⌜ KeysAt at (now key) (now ctx) ⌝ }
-    ensures { λ r. ⌜ now r ≡ keyExpansion (now (key .entry)) ⌝ }
+    ensures { λ r. ⌜ now r ≡ scheduleAt at (now (key .entry)) ⌝ }
     ensures { λ r. ⌜ length (now r) ≡ 16 * suc (keyRounds (now (key .entry))) ⌝ }
 {
     let n = 16 * rounds_of(key) + 16;

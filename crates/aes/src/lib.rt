@@ -5,6 +5,7 @@
 mod cipher;
 mod context;
 mod inverse;
+mod inverse_keys;
 mod table;
 
 pub use cipher::encrypt;
@@ -18,6 +19,8 @@ pub use context::fill;
 pub use context::fill_inverse;
 pub use context::is_key;
 pub use inverse::decrypt;
+pub use inverse::decrypt_words;
+pub use inverse::inverse_state;
 ghost use mathlib.Core.Path.{_≡_};
 ghost use Rattle.fips197.specs.Cipher.{cipher, invCipher};
 ghost use Rattle.aes.specs.Context.{answer, answered};

@@ -6,9 +6,12 @@ use aes_schedule::join;
 use aes_schedule::second;
 use aes_schedule::third;
 use aes_schedule::word_at;
+use aes_schedule::words_at;
+use aes_schedule::xor_words;
 ghost use mathlib.Core.Path.{_≡_};
 ghost use Prim.Native.Nat.{_*_, _/_, _%_, _≤_, suc};
 ghost use lib.ListN.{length};
+ghost use Rattle.field.specs.SBox.{sBox};
 ghost use Rattle.aes_tables.specs.Round.{entry};
 ghost use Rattle.fips197.specs.Steps.{subBytes, shiftRows, mixColumns, addRoundKey};
 ghost use Rattle.aes_schedule.specs.Words.{bytesOf, blockOf};
@@ -39,16 +42,25 @@ pub fn sub_shift_mix(t: &[u8], k: Words) -> Words
     }
 }
 
-// SubBytes of a column, whose rows come from four words: the second byte of an entry is the S-box's.
+// The S-box: the second byte of an entry.
+pub fn boxed(t: &[u8], x: u8) -> u8
+    requires { ⌜ Entries entry (now t) ⌝ }
+    ensures { λ r. ⌜ r ≡ sBox x ⌝ }
+{
+    t[8 * x as usize + 1]
+}
+
+// SubBytes of a column, whose rows come from four words.
 fn shifted(t: &[u8], a: u32, b: u32, c: u32, d: u32) -> u32
     requires { ⌜ Entries entry (now t) ⌝ }
     ensures { λ r. ⌜ bytesOf r ≡ subBoxed (a % 256) (b / 256 % 256) (c / 65536 % 256) (d / 16777216 % 256) ⌝ }
 {
-    let p = t[8 * first(a) as usize + 1];
-    let q = t[8 * second(b) as usize + 1];
-    let u = t[8 * third(c) as usize + 1];
-    let v = t[8 * fourth(d) as usize + 1];
-    join(p, q, u, v)
+    join(
+        boxed(t, first(a)),
+        boxed(t, second(b)),
+        boxed(t, third(c)),
+        boxed(t, fourth(d)),
+    )
 }
 
 // SubBytes, ShiftRows.
@@ -69,10 +81,5 @@ pub fn add_key(w: &[u8], n: usize, k: Words) -> Words
     requires { ⌜ 16 * suc n ≤ length (now w) ⌝ }
     ensures { λ r. ⌜ blockOf r ≡ addRoundKey (now (w .entry)) n (blockOf k) ⌝ }
 {
-    Words {
-        a: k.a ^ word_at(w, 16 * n),
-        b: k.b ^ word_at(w, 16 * n + 4),
-        c: k.c ^ word_at(w, 16 * n + 8),
-        d: k.d ^ word_at(w, 16 * n + 12),
-    }
+    xor_words(k, words_at(w, 16 * n))
 }

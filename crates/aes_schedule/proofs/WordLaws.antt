@@ -1,18 +1,19 @@
 -- Words: bytes put together and taken apart, a rotation, sums, entries of a table, and the four words of a block.
 -- Assumes nothing.
-use mathlib.Core.Path.{_≡_, sym, ap, ap₂, _∙_}
+use mathlib.Core.Path.{_≡_, refl, sym, ap, ap₂, _∙_}
 use mathlib.Core.List.{List, [], _∷_, _++_}
 use Prim.Native.Nat.{ℕ, _+_, _-_, _*_, _/_, _%_, _<_, _≤_}
 use native.Mathlib.Nat.{div-div-eq-div-mul}
 use native.Mathlib.Omega.{arith}
 use lib.Bits.{bitXor, xor-shr, xor-mod}
 use lib.ListN.{length, getD, take, drop, length-drop}
-use lib.Seq.{getD-drop}
+use lib.Seq.{getD-drop, drop-drop, take-add}
 use Rattle.octets.specs.Strings.{table}
 use Rattle.octets.specs.Xor.{xors}
 use Rattle.octets.proofs.Strings.{getD-table, table-getD, table-take}
 use Rattle.fips197.specs.State.{at}
-use Rattle.aes_schedule.specs.Words.{bytesOf, wordAt, lookedUp}
+use Rattle.aes_schedule.specs.declared.words.Words.{Words}
+use Rattle.aes_schedule.specs.Words.{bytesOf, blockOf, wordAt, lookedUp}
 
 pub four : {a b c d a′ b′ c′ d′ : ℕ} → a ≡ a′ → b ≡ b′ → c ≡ c′ → d ≡ d′ → a ∷ b ∷ c ∷ d ∷ [] ≡ a′ ∷ b′ ∷ c′ ∷ d′ ∷ []
 four p q u v = ap₂ _∷_ p (ap₂ _∷_ q (ap₂ _∷_ u (ap (λ (x : ℕ). x ∷ []) v)))
@@ -62,6 +63,28 @@ pub read-bytes : (s p q u v : List ℕ) → length s ≡ 16 →
     p ++ (q ++ (u ++ v)) ≡ s
 unfolding table
 read-bytes s p q u v l ep eq eu ev = rw (ep, eq, eu, ev) (ap (table (λ k. getD s k 0)) (sym l) ∙ table-getD s)
+
+pub block-words : (s : List ℕ) (at : ℕ) → at + 16 ≤ length s → (p q u v : List ℕ) →
+    p ≡ wordAt s at → q ≡ wordAt s (at + 4) → u ≡ wordAt s (at + 8) → v ≡ wordAt s (at + 12) → p ++ (q ++ (u ++ v)) ≡ take 16 (drop at s)
+block-words s at h p q u v ep eq eu ev =
+    ap₂ _++_ (ep ∙ part at at refl (omega arith))
+    (ap₂ _++_ (eq ∙ part (at + 4) (at + 4) refl (omega arith))
+    (ap₂ _++_ (eu ∙ part (at + 8) (at + 4 + 4) (omega arith) (omega arith)) (ev ∙ part (at + 12) (at + 4 + 4 + 4) (omega arith) (omega arith))))
+    ∙ sym
+    (take-add 4 12 (drop at s)
+    ∙ ap (λ (x : List ℕ). take 4 (drop at s) ++ x)
+    (ap (take 12) (drop-drop 4 at s) ∙ take-add 4 8 (drop (at + 4) s)
+    ∙ ap (λ (x : List ℕ). take 4 (drop (at + 4) s) ++ x)
+    (ap (take 8) (drop-drop 4 (at + 4) s) ∙ take-add 4 4 (drop (at + 4 + 4) s)
+    ∙ ap (λ (x : List ℕ). take 4 (drop (at + 4 + 4) s) ++ x) (ap (take 4) (drop-drop 4 (at + 4 + 4) s)))))
+  where
+    part : (j m : ℕ) → j ≡ m → j + 4 ≤ at + 16 → wordAt s j ≡ take 4 (drop m s)
+    part j m e l = word-bytes s j (omega arith) ∙ ap (λ (x : ℕ). take 4 (drop x s)) e
+
+pub xor-words : (j k : Words) →
+    bytesOf (bitXor (j .a) (k .a)) ++ (bytesOf (bitXor (j .b) (k .b)) ++ (bytesOf (bitXor (j .c) (k .c)) ++ bytesOf (bitXor (j .d) (k .d)))) ≡ xors (blockOf j) (blockOf k)
+unfolding xors
+xor-words j k = ap₂ _++_ (xor-bytes (j .a) (k .a)) (ap₂ _++_ (xor-bytes (j .b) (k .b)) (ap₂ _++_ (xor-bytes (j .c) (k .c)) (xor-bytes (j .d) (k .d))))
 
 -- the entries of a table of values
 pub looked-up : (f : ℕ → ℕ) (t : List ℕ) → t ≡ table f 256 → (p q u v : ℕ) → p < 256 → q < 256 → u < 256 → v < 256 → lookedUp t p q u v ≡ f p ∷ f q ∷ f u ∷ f v ∷ []

@@ -12,4 +12,6 @@ pub use words::read;
 pub use words::second;
 pub use words::third;
 pub use words::word_at;
+pub use words::words_at;
 pub use words::write;
+pub use words::xor_words;

@@ -2,7 +2,8 @@
 ghost use mathlib.Core.Path.{_≡_};
 ghost use mathlib.Core.List.{[], _∷_};
 ghost use Prim.Native.Nat.{_+_, _/_, _%_, _≤_};
-ghost use lib.ListN.{length};
+ghost use lib.ListN.{length, take, drop};
+ghost use Rattle.octets.specs.Xor.{xors};
 ghost use Rattle.aes_schedule.specs.Words.{bytesOf, blockOf, wordAt, lookedUp};
 
 pub struct Words {
@@ -74,6 +75,31 @@ pub fn read(s: [u8; 16]) -> Words
         b: join(s[4], s[5], s[6], s[7]),
         c: join(s[8], s[9], s[10], s[11]),
         d: join(s[12], s[13], s[14], s[15]),
+    }
+}
+
+// The words of the block at a place of a string.
+pub fn words_at(s: &[u8], at: usize) -> Words
+    requires { ⌜ at + 16 ≤ length (now s) ⌝ }
+    ensures { λ r. ⌜ blockOf r ≡ take 16 (drop at (now (s .entry))) ⌝ }
+{
+    Words {
+        a: word_at(s, at),
+        b: word_at(s, at + 4),
+        c: word_at(s, at + 8),
+        d: word_at(s, at + 12),
+    }
+}
+
+// The exclusive or of two blocks.
+pub fn xor_words(j: Words, k: Words) -> Words
+    ensures { λ r. ⌜ blockOf r ≡ xors (blockOf j) (blockOf k) ⌝ }
+{
+    Words {
+        a: j.a ^ k.a,
+        b: j.b ^ k.b,
+        c: j.c ^ k.c,
+        d: j.d ^ k.d,
     }
 }
 

@@ -1,4 +1,4 @@
--- The tables that the rounds read: a matrix on one byte of a column (FIPS 197, sections 5.1.1, 5.1.3 and 5.3.3).
+-- The tables that the rounds read: a matrix on one byte of a column (FIPS 197, sections 5.1.1, 5.1.3, 5.3.2 and 5.3.3).
 -- Assumes nothing.
 use mathlib.Core.List.{List, [], _∷_, _++_}
 use Prim.Native.Nat.{ℕ, zero, suc}
@@ -15,9 +15,9 @@ multiples p q u v b = mul p b ∷ mul q b ∷ mul u b ∷ mul v b ∷ mul p b �
 unfoldable pub entry : ℕ → List ℕ
 entry v = multiples 2 1 1 3 (sBox v)
 
--- v times the first column of InvMixColumns' matrix
+-- the inverse S-box's byte of v times the first column of InvMixColumns' matrix
 unfoldable pub inverseEntry : ℕ → List ℕ
-inverseEntry v = multiples 0x0e 0x09 0x0d 0x0b v
+inverseEntry v = multiples 0x0e 0x09 0x0d 0x0b (invSBox v)
 
 -- the n entries from that of v on, one after the other
 unfoldable pub entries : (ℕ → List ℕ) → ℕ → ℕ → List ℕ
@@ -28,6 +28,6 @@ entries e v (suc n) = e v ++ entries e (suc v) n
 abbrev pub forward : List ℕ
 forward = entries entry 0 256
 
--- the table of InvMixColumns, and the inverse S-box
+-- the round table of decryption, and the inverse S-box for its last round
 abbrev pub inverses : List ℕ
 inverses = entries inverseEntry 0 256 ++ table invSBox 256

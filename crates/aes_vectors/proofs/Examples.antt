@@ -12,6 +12,7 @@ use Rattle.fips197.specs.State.{at, state}
 use Rattle.fips197.specs.Steps.{subBytes, shiftRows, timesMatrix, mixColumns, addRoundKey, invShiftRows, invSubBytes, invMixColumns}
 use Rattle.fips197.specs.Schedule.{subWord, rotWord, power, rcon, temp, expanded, keyExpansion}
 use Rattle.fips197.specs.Cipher.{rounds, invRounds, cipher, invCipher}
+use Rattle.fips197.specs.Equivalent.{modifiedKey, modifiedKeys, keyExpansionEIC, eqStep, eqState}
 
 -- section 4.2: {57} • {83} = {c1}; section 4.2.1: {57} • {13} = {fe}
 product : mul 0x57 0x83 ≡ 0xc1
@@ -46,3 +47,8 @@ encrypted = refl
 decrypted : invCipher (key 16) (digits 16 0x69c4e0d86a7b0430d8cdb78070b4c55a) ≡ plaintext
 unfolding key plaintext digits table xors xtime mulBits mul dot squares inverse bitsOf affine invAffine sBox invSBox at state invSubBytes invShiftRows timesMatrix invMixColumns addRoundKey subWord rotWord power rcon temp expanded keyExpansion invRounds invCipher
 decrypted = refl
+
+-- appendix C.1, the equivalent inverse cipher: what its second round starts with
+traced : eqState (keyExpansionEIC (key 16)) 10 4 (digits 16 0x69c4e0d86a7b0430d8cdb78070b4c55a) ≡ digits 16 0x54d990a16ba09ab596bbf40ea111702f
+unfolding key digits table xors xtime mulBits mul dot squares inverse bitsOf affine invAffine sBox invSBox at state invSubBytes invShiftRows timesMatrix invMixColumns addRoundKey subWord rotWord power rcon temp expanded keyExpansion modifiedKey modifiedKeys keyExpansionEIC eqStep eqState
+traced = refl

@@ -1,12 +1,14 @@
 // Writes what FIPS 197's appendices A, B and C have, as our code computes it: the three key
 // expansions, every word; the State after each round of the cipher example; the three example
-// vectors, encrypted and decrypted again.
+// vectors, encrypted and decrypted again; and of these three the State after each step of the
+// equivalent inverse cipher, with the standard's labels.
 //
-// The file stdout beside src/, which this is held to, was written from the standard and not from a
-// run of this program. tests/vectors.sh holds its B and C lines against openssl at every run of
-// ./test. The round keys of A and the inner states of B, which openssl does not show, were held
-// against an AES of its own kind, with the S-box computed from the field, and that one against
-// openssl under the same keys.
+// The file stdout beside src/, which this is held to, was not written from a run of this program.
+// tests/vectors.sh holds its ciphertexts and plaintexts against openssl at every run of ./test, and
+// the step `rows` the States of the equivalent inverse cipher against the second implementation.
+// The round keys of A and the inner states of B, which openssl does not show, were held against an
+// AES of its own kind, with the S-box computed from the field, and that one against openssl under
+// the same keys.
 use libc::STDOUT_FILENO;
 ghost use Prim.Native.Nat.{_≤_, _<_};
 ghost use Rattle.fips197.specs.Cipher.{keyRounds};
@@ -95,6 +97,63 @@ fn example(name: &[u8], key: &[u8], block: [u8; 16]) {
     show::line_end();
 }
 
+// The standard's label of step j of a round.
+fn print_label(j: usize, last: bool) {
+    if j == 0 {
+        io::write_all(STDOUT_FILENO, b"istart ");
+        return;
+    }
+    if j == 1 {
+        io::write_all(STDOUT_FILENO, b"is_box ");
+        return;
+    }
+    if j == 2 {
+        io::write_all(STDOUT_FILENO, b"is_row ");
+        return;
+    }
+    if last {
+        io::write_all(STDOUT_FILENO, b"ioutput ");
+        return;
+    }
+    io::write_all(STDOUT_FILENO, b"im_col ");
+}
+
+// A line of a trace: the number of the round, the step's label, and the State after it.
+fn print_step(k: usize, last: bool, s: [u8; 16]) {
+    io::print_decimal(STDOUT_FILENO, (k / 4 + 1) as u64);
+    show::space();
+    print_label(k % 4, last);
+    print_block(s);
+    show::line_end();
+}
+
+// The State after each step of the equivalent inverse cipher.
+fn steps(key: &[u8], block: [u8; 16]) {
+    if aes::is_key(key) {
+        let mut ctx = aes::blank();
+        aes::fill(key, &mut ctx);
+        let mut inv = aes::blank_inverse();
+        aes::fill_inverse(key, &ctx, &mut inv);
+        let n = 4 * (key.len() / 4 + 6);
+        let mut k = 0;
+        while k < n {
+            print_step(k, k + 1 == n, aes::inverse_state(key, &inv, k, block));
+            k += 1;
+        }
+    }
+}
+
+// Appendix C: the equivalent inverse cipher on the ciphertext.
+fn trace(name: &[u8], key: &[u8], block: [u8; 16]) {
+    let mut b = block;
+    aes::aes_encrypt(key, &mut b);
+    io::write_all(STDOUT_FILENO, name);
+    io::write_all(STDOUT_FILENO, b" EqInvCipher ");
+    print_block(b);
+    show::line_end();
+    steps(key, b);
+}
+
 fn main() {
     let key_a = b"\x2b\x7e\x15\x16\x28\xae\xd2\xa6\xab\xf7\x15\x88\x09\xcf\x4f\x3c";
     expansion(b"A.1", key_a);
@@ -115,4 +174,7 @@ fn main() {
     example(b"C.1", &keys[..16], block_c);
     example(b"C.2", &keys[..24], block_c);
     example(b"C.3", keys, block_c);
+    trace(b"C.1", &keys[..16], block_c);
+    trace(b"C.2", &keys[..24], block_c);
+    trace(b"C.3", keys, block_c);
 }

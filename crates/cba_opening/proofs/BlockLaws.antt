@@ -8,6 +8,7 @@ use native.Mathlib.Omega.{arith}
 use lib.ListN.{length, take, drop}
 use lib.Seq.{take-all, drop-at}
 use Rattle.octets.specs.Xor.{xors}
+use Rattle.octets.proofs.Parts.{to-end}
 use Rattle.cba_mode.specs.Offsets.{F}
 use Rattle.cba_mode.specs.Seal.{checksum, cipherBlocks}
 use Rattle.cba_mode.proofs.Undoing.{checksum-prefix}
@@ -18,6 +19,10 @@ sum-more : (P c : List ℕ) (i : ℕ) → length P ≡ 16 * i → length c ≡ 1
 unfolding checksum
 sum-more P c i l h =
     sym (ap₂ xors (checksum-prefix P c i (omega arith)) (ap (take 16) (drop-at P c (16 * i) l) ∙ take-all 16 c (omega arith)))
+
+-- a block read where it stands is the first of the part that begins there
+pub lent : (M m : List ℕ) (i : ℕ) → m ≡ take 16 (drop (16 * i) M) → m ≡ take 16 (take (length M - 16 * i) (drop (16 * i) M))
+lent M m i e = e ∙ ap (take 16) (sym (to-end M (16 * i)))
 
 module _ (D : List ℕ → List ℕ) (Δ C : List ℕ) where
   -- the sum after i blocks

@@ -7,6 +7,7 @@ use mathlib.Core.List.{List, _++_}
 use Prim.Native.Nat.{ℕ, _+_, _-_, _*_, _≤_}
 use lib.ListN.{length, drop}
 use Rattle.octets.specs.Strings.{eqs}
+use Rattle.octets.specs.Xor.{xors}
 use Rattle.fips197.specs.Cipher.{cipher, invCipher}
 use Rattle.cba_mode.specs.Sets.{tagBytes}
 use Rattle.cba_mode.specs.Forms.{openForm}
@@ -23,6 +24,10 @@ pub record Opens (p : Parameters) (N C d : List ℕ) : Type 0 where
   pub given : Given p N
   pub least : tagBytes (p .tau) ≤ length C
   pub room : length C ≤ length d + tagBytes (p .tau)
+
+-- D(C ⊕ Δ) ⊕ Δ
+abbrev pub throughD : List ℕ → List ℕ → List ℕ → List ℕ
+throughD key Δ C = xors (invCipher key (xors C Δ)) Δ
 
 -- M_1 .. M_k, which D makes as E makes C_1 .. C_k, and their sum
 abbrev pub OpenedBlocks : List ℕ → List ℕ → List ℕ → List ℕ → ℕ → Running → List ℕ → Type 0

@@ -1,5 +1,5 @@
 // The forms of opening, and the choice between them.
-use crate::blocks::plain_blocks;
+use crate::blocks::open_blocks;
 use crate::joined::joined_end;
 use crate::separate::separate_end;
 use cba_sealing::cover;
@@ -10,7 +10,7 @@ use cba_steps::Parameters;
 use cba_steps::ending_of;
 ghost use Prim.Native.Nat.{_+_, _-_, _≤_, _<_};
 ghost use lib.ListN.{length};
-ghost use Rattle.aes.specs.Context.{Encrypts, Decrypts};
+ghost use Rattle.aes.specs.Context.{Encrypts};
 ghost use Rattle.cba_mode.specs.Sets.{tagBytes};
 ghost use Rattle.cba_steps.specs.Endings.{Ends};
 ghost use Rattle.cba_sealing.specs.Calls.{firstBytes};
@@ -45,7 +45,6 @@ fn open_short(
 fn tail(
     key: &[u8],
     ctx: &aes::Context,
-    inv: &aes::Inverse,
     e: Ending,
     tag: &[u8],
     offset: [u8; 16],
@@ -53,14 +52,13 @@ fn tail(
     out: &mut [u8],
 ) -> bool
     requires { ⌜ Encrypts (now key) (now ctx) ⌝ }
-    requires { ⌜ Decrypts (now key) (now inv) ⌝ }
     requires { ⌜ Ends (e .joined) (e .blocks) (length (now tag)) (length (now rest) - length (now tag)) ⌝ }
     requires { ⌜ length (now tag) ≤ 16 ⌝ }
     requires { ⌜ length (now rest) ≤ length (now out) + length (now tag) ⌝ }
     ensures { λ r. ⌜ Tail (now (key .entry)) e (now (tag .entry)) offset (now (rest .entry)) (now (out .entry)) r (now (out .exit)) ⌝ }
 {
     let k = e.blocks;
-    let s = plain_blocks(key, inv, rest, k, offset, out);
+    let s = open_blocks(key, ctx, rest, k, offset, out);
     let end = &rest[16 * k..];
     if e.joined {
         return joined_end(key, ctx, tag, s, end, &mut out[16 * k..]);
@@ -72,7 +70,6 @@ fn tail(
 fn open_long(
     key: &[u8],
     ctx: &aes::Context,
-    inv: &aes::Inverse,
     p: Parameters,
     nonce: &[u8],
     sum: [u8; 16],
@@ -80,7 +77,6 @@ fn open_long(
     out: &mut [u8],
 ) -> bool
     requires { ⌜ Encrypts (now key) (now ctx) ⌝ }
-    requires { ⌜ Decrypts (now key) (now inv) ⌝ }
     requires { ⌜ Opens p (now nonce) (now ciphertext) (now out) ⌝ }
     requires { ⌜ firstBytes p + tagBytes (p .tau) < length (now ciphertext) ⌝ }
     ensures { λ r. ⌜ Try (now (key .entry)) p (now (nonce .entry)) sum (now (ciphertext .entry)) (now (out .entry)) r (now (out .exit)) ⌝ }
@@ -96,7 +92,6 @@ fn open_long(
     tail(
         key,
         ctx,
-        inv,
         e,
         &whole[16 - t..],
         offset,
@@ -109,7 +104,6 @@ fn open_long(
 fn attempted(
     key: &[u8],
     ctx: &aes::Context,
-    inv: &aes::Inverse,
     p: Parameters,
     nonce: &[u8],
     sum: [u8; 16],
@@ -117,14 +111,13 @@ fn attempted(
     out: &mut [u8],
 ) -> bool
     requires { ⌜ Encrypts (now key) (now ctx) ⌝ }
-    requires { ⌜ Decrypts (now key) (now inv) ⌝ }
     requires { ⌜ Opens p (now nonce) (now ciphertext) (now out) ⌝ }
     ensures { λ r. ⌜ Try (now (key .entry)) p (now (nonce .entry)) sum (now (ciphertext .entry)) (now (out .entry)) r (now (out .exit)) ⌝ }
 {
     if ciphertext.len() <= p.first_bytes() + p.tag_bytes() {
         return open_short(key, ctx, p, nonce, sum, ciphertext, out);
     }
-    open_long(key, ctx, inv, p, nonce, sum, ciphertext, out)
+    open_long(key, ctx, p, nonce, sum, ciphertext, out)
 }
 
 // DEC, given T_A, the first t bytes of the sum: the message over the first bytes of out, or zeros
@@ -132,7 +125,6 @@ fn attempted(
 pub fn dec(
     key: &[u8],
     ctx: &aes::Context,
-    inv: &aes::Inverse,
     p: Parameters,
     nonce: &[u8],
     sum: [u8; 16],
@@ -140,11 +132,10 @@ pub fn dec(
     out: &mut [u8],
 ) -> bool
     requires { ⌜ Encrypts (now key) (now ctx) ⌝ }
-    requires { ⌜ Decrypts (now key) (now inv) ⌝ }
     requires { ⌜ Opens p (now nonce) (now ciphertext) (now out) ⌝ }
     ensures { λ r. ⌜ Dec (now (key .entry)) p (now (nonce .entry)) sum (now (ciphertext .entry)) (now (out .entry)) r (now (out .exit)) ⌝ }
 {
-    if attempted(key, ctx, inv, p, nonce, sum, ciphertext, out) {
+    if attempted(key, ctx, p, nonce, sum, ciphertext, out) {
         return true;
     }
     octets::clear(out, ciphertext.len() - p.tag_bytes());

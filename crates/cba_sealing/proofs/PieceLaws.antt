@@ -64,7 +64,7 @@ unfolding checksum
 sum-turn M m S S′ i e em eS = rw (add-one i) (eS ∙ ap₂ xors e (block-lent M m i em))
 
 module _ {E : List ℕ → List ℕ} {Δ M d : List ℕ} {σ : ℕ → List ℕ} {k : ℕ} where
-  pub turned-none : replicate 16 0 ≡ σ 0 → Turned E Δ M d σ k 0 Δ (replicate 16 0) d
+  pub turned-none : {S : List ℕ} → S ≡ σ 0 → Turned E Δ M d σ k 0 Δ S d
   unfolding offset cipherBlocks
   turned-none e = record { within = omega arith; offset-now = refl; sum-now = e; so-far = refl; size = refl; long = refl }
 
@@ -99,12 +99,12 @@ module _ {E : List ℕ → List ℕ} {Δ M d : List ℕ} {σ : ℕ → List ℕ}
       })
 
   -- the end of the loop
-  pub turned-all : {i : ℕ} {Δᵢ S out : List ℕ} → Turned E Δ M d σ k i Δᵢ S out → k ≤ i → (Δₖ : List ℕ) → Δₖ ≡ Δᵢ →
-      Passed E (σ k) Δ M d k (record { offset = Δₖ; sum = S }) out
-  turned-all {i} v h Δₖ eΔ =
+  pub turned-all : {i : ℕ} {Δᵢ S out : List ℕ} → Turned E Δ M d σ k i Δᵢ S out → k ≤ i → (Δₖ Sₖ : List ℕ) → Δₖ ≡ Δᵢ → Sₖ ≡ S →
+      Passed E (σ k) Δ M d k (record { offset = Δₖ; sum = Sₖ }) out
+  turned-all {i} v h Δₖ Sₖ eΔ eS =
       let e : i ≡ k = le-antisymm (v .within) h in
       record {
         offset-is = eΔ ∙ v .offset-now ∙ ap (offset Δ) e;
-        sum-is = v .sum-now ∙ ap σ e;
+        sum-is = eS ∙ v .sum-now ∙ ap σ e;
         written = v .so-far ∙ ap (λ (n : ℕ). cipherBlocks E Δ M i ++ drop n d) (v .size) ∙ ap (λ (n : ℕ). cipherBlocks E Δ M n ++ drop (16 * n) d) e;
       }

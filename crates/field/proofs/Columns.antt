@@ -3,13 +3,13 @@
 use mathlib.Core.Path.{_≡_, refl, sym, ap, ap₂, _∙_}
 use mathlib.Core.List.{List, [], _∷_}
 use Prim.Native.Nat.{ℕ, zero, suc, _*_, _/_, _%_, _<_}
-use native.Mathlib.Nat.{add-zero}
+use native.Mathlib.Nat.{add-zero, mul-zero}
 use native.Mathlib.Omega.{arith}
 use lib.Bits.{bitXor, xor-comm, xor-self, xor-zero-l, xor-shr, xor-mod, xor-block}
 use lib.Dec.{T}
 use lib.ListN.{getD}
 use Rattle.octets.proofs.Tests.{agree, same}
-use Rattle.octets.proofs.Xor.{xor-assoc, xor-left-comm, xor-cancel, xor-byte}
+use Rattle.octets.proofs.Xor.{xor-half, xor-assoc, xor-left-comm, xor-cancel, xor-byte}
 use Rattle.field.specs.Field.{xtime, mulBits, mul, dot}
 use Rattle.field.proofs.Rules.{mul-byte}
 
@@ -27,6 +27,9 @@ module _ (_⊕_ : ℕ → ℕ → ℕ) where
 
   four : Laws → (p q r s : ℕ) → (p ⊕ q) ⊕ r ⊕ s ≡ (p ⊕ r) ⊕ q ⊕ s
   four L p q r s = simp (L .assoc, L .left-comm)
+
+  eight : Laws → (p q r s t u v w : ℕ) → (p ⊕ q) ⊕ (r ⊕ s) ⊕ (t ⊕ u) ⊕ v ⊕ w ≡ (p ⊕ r ⊕ t ⊕ v) ⊕ q ⊕ s ⊕ u ⊕ w
+  eight L p q r s t u v w = simp (L .assoc, L .left-comm)
 
   module _ (L : Laws) (dbl : ℕ → ℕ) (additive : (a b : ℕ) → dbl (a ⊕ b) ≡ dbl a ⊕ dbl b) (a b c d : ℕ) where
     mixed-sum : dbl a ⊕ (dbl b ⊕ b) ⊕ c ⊕ d ≡ dbl (a ⊕ b) ⊕ b ⊕ c ⊕ d
@@ -85,6 +88,31 @@ xtime-xor a b =
     (ap (λ (k : ℕ). k % 2 * 0x1b) (xor-shr a b 7) ∙ ap (λ (k : ℕ). k * 0x1b) (xor-mod (a / 128) (b / 128) 1)
     ∙ reduce-xor (a / 128 % 2) (b / 128 % 2) (omega arith) (omega arith))
     ∙ four bitXor laws (a * 2 % 256) (b * 2 % 256) (a / 128 % 2 * 0x1b) (b / 128 % 2 * 0x1b)
+
+-- ---- a matrix is additive, as section 5.3.5 needs it: the row of a sum is the sum of the rows
+
+times-xor : (a x y : ℕ) → x < 2 → y < 2 → a * bitXor x y ≡ bitXor (a * x) (a * y)
+times-xor a zero y h k = rw (xor-zero-l y, mul-zero a) (sym (xor-zero-l (a * y)))
+times-xor a (suc zero) zero h k = rw (mul-zero a) (sym (xor-comm (a * 1) 0 ∙ xor-zero-l (a * 1)))
+times-xor a (suc zero) (suc zero) h k = mul-zero a ∙ sym (xor-self (a * 1))
+times-xor a (suc zero) (suc (suc y)) h k = absurd (omega arith)
+times-xor a (suc (suc x)) y h k = absurd (omega arith)
+
+mulBits-xor : (n a b c : ℕ) → mulBits n a (bitXor b c) ≡ bitXor (mulBits n a b) (mulBits n a c)
+unfolding mulBits
+mulBits-xor zero a b c = refl
+mulBits-xor (suc n) a b c =
+    ap₂ bitXor
+    (ap (λ (k : ℕ). a * k) (xor-mod b c 1) ∙ times-xor a (b % 2) (c % 2) (omega arith) (omega arith))
+    (ap (mulBits n (xtime a)) (xor-half b c) ∙ mulBits-xor n (xtime a) (b / 2) (c / 2))
+    ∙ four bitXor laws (a * (b % 2)) (a * (c % 2)) (mulBits n (xtime a) (b / 2)) (mulBits n (xtime a) (c / 2))
+
+pub dot-xor : (p q r s a b c d e f g h : ℕ) →
+    dot p q r s (bitXor a e) (bitXor b f) (bitXor c g) (bitXor d h) ≡ bitXor (dot p q r s a b c d) (dot p q r s e f g h)
+unfolding dot mul
+dot-xor p q r s a b c d e f g h =
+    ap₂ bitXor (mulBits-xor 8 p a e) (ap₂ bitXor (mulBits-xor 8 q b f) (ap₂ bitXor (mulBits-xor 8 r c g) (mulBits-xor 8 s d h)))
+    ∙ eight bitXor laws (mul p a) (mul p e) (mul q b) (mul q f) (mul r c) (mul r g) (mul s d) (mul s h)
 
 -- ---- the multiples that the two matrices have
 

@@ -10,26 +10,18 @@ use lib.ListN.{length}
 use Rattle.octets.specs.Strings.{Bytes, Octets}
 use Rattle.fips197.specs.Schedule.{keyExpansion}
 use Rattle.fips197.specs.Steps.{subBytes, shiftRows, mixColumns, addRoundKey, invSubBytes, invShiftRows, invMixColumns}
-use Rattle.fips197.specs.Cipher.{fullRound, rounds, cipherOver, fullInvRound, invRounds, invCipherOver, keyRounds, cipher, invCipher}
+use Rattle.fips197.specs.Cipher.{fullRound, rounds, cipherOver, fullInvRound, invRounds, invCipherOver, keyRounds, cipher}
 use Rattle.fips197.proofs.StepLaws.{subBytes-octets, invSubBytes-octets, invSubBytes-subBytes, subBytes-invSubBytes, shiftRows-octets, invShiftRows-octets, invShiftRows-shiftRows, shiftRows-invShiftRows, mixColumns-octets, invMixColumns-octets, invMixColumns-mixColumns, mixColumns-invMixColumns, addRoundKey-octets, addRoundKey-twice}
 
--- one more round, each way
+-- one more round
 pub rounds-more : (w b s r : List ℕ) (i : ℕ) → s ≡ rounds w i b → r ≡ fullRound w (i + 1) s → r ≡ rounds w (i + 1) b
 unfolding rounds
 rounds-more w b s r i p q = q ∙ rw (p, add-one i)
-
-pub invRounds-more : (w b s r : List ℕ) (nr i : ℕ) → s ≡ invRounds w nr i b → r ≡ fullInvRound w (nr - (i + 1)) s → r ≡ invRounds w nr (i + 1) b
-unfolding invRounds
-invRounds-more w b s r nr i p q = q ∙ rw (p, add-one i)
 
 -- over the schedule of a key, at its number of rounds
 pub cipher-at : (key w s r : List ℕ) (nr : ℕ) → w ≡ keyExpansion key → nr ≡ keyRounds key → r ≡ cipherOver w nr s → r ≡ cipher key s
 unfolding cipher
 cipher-at key w s r nr p q e = e ∙ ap₂ (λ (x : List ℕ) (n : ℕ). cipherOver x n s) p q
-
-pub invCipher-at : (key w s r : List ℕ) (nr : ℕ) → w ≡ keyExpansion key → nr ≡ keyRounds key → r ≡ invCipherOver w nr s → r ≡ invCipher key s
-unfolding invCipher
-invCipher-at key w s r nr p q e = e ∙ ap₂ (λ (x : List ℕ) (n : ℕ). invCipherOver x n s) p q
 
 -- SubBytes and ShiftRows, and their inverses, which a round has one after the other
 subShift-octets : (s : List ℕ) → Octets 16 (shiftRows (subBytes s))

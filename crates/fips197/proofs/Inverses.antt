@@ -17,7 +17,7 @@ module _ (key : List ℕ) (b : Bytes key) (h : isKey key ≡ true) where
   w : Octets (16 * (length key / 4 + 7)) (keyExpansion key)
   w = keyExpansion-octets key b (key-words key h)
 
-  room : 16 * suc (length key / 4 + 6) ≤ length (keyExpansion key)
+  pub room : 16 * suc (length key / 4 + 6) ≤ length (keyExpansion key)
   room = omega (arith, w .size)
 
   -- encryption gives a block, whatever goes in

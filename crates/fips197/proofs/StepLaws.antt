@@ -1,20 +1,21 @@
 -- Each transformation takes a block of 16 bytes to one, and is undone by its inverse.
 -- Assumes nothing.
-use mathlib.Core.Path.{_≡_, ap, _∙_}
+use mathlib.Core.Path.{_≡_, refl, sym, ap, ap₂, _∙_}
 use mathlib.Core.List.{List}
 use Prim.Native.Nat.{ℕ, zero, suc, _+_, _-_, _*_, _%_, _<_, _≤_}
 use native.Mathlib.Omega.{arith}
+use lib.Bits.{bitXor}
 use lib.ListN.{length, drop}
-use Rattle.octets.specs.Strings.{Bytes, Octets}
+use Rattle.octets.specs.Strings.{Bytes, Octets, table}
 use Rattle.octets.specs.Xor.{xors}
 use Rattle.octets.specs.Blocks.{block}
 use Rattle.octets.proofs.Strings.{bytes-take, bytes-drop}
-use Rattle.octets.proofs.Xor.{length-xors, bytes-xors, xors-comm, xors-cancel}
+use Rattle.octets.proofs.Xor.{length-xors, bytes-xors, xors-comm, xors-cancel, getD-xors}
 use Rattle.octets.proofs.Blocks.{length-block}
 use Rattle.field.specs.Field.{dot}
 use Rattle.field.specs.SBox.{sBox, invSBox}
 use Rattle.field.proofs.Rules.{sBox-byte, invSBox-byte, sBox-invSBox, invSBox-sBox}
-use Rattle.field.proofs.Columns.{Column, dot-byte, unmix-undoes, mix-undoes}
+use Rattle.field.proofs.Columns.{Column, dot-byte, dot-xor, unmix-undoes, mix-undoes}
 use Rattle.fips197.specs.State.{at, state}
 use Rattle.fips197.specs.Steps.{subBytes, shiftRows, timesMatrix, mixColumns, addRoundKey, invSubBytes, invShiftRows, invMixColumns}
 use Rattle.fips197.proofs.StateLaws.{at-state, state-is, at-byte, state-octets}
@@ -126,6 +127,32 @@ invMixColumns-mixColumns {s} o = matrix-undo (dot 2 3 1 1) (dot 0x0e 0x0b 0x0d 0
 pub mixColumns-invMixColumns : {s : List ℕ} → Octets 16 s → mixColumns (invMixColumns s) ≡ s
 unfolding mixColumns invMixColumns timesMatrix row
 mixColumns-invMixColumns {s} o = matrix-undo (dot 0x0e 0x0b 0x0d 0x09) (dot 2 3 1 1) (λ a b c d. mix-undoes) s o
+
+-- InvMixColumns of a sum is the sum of what it makes of each
+at-xors : (a b : List ℕ) → length a ≡ 16 → length b ≡ 16 → (r c : ℕ) → r < 4 → c < 4 → at (xors a b) r c ≡ bitXor (at a r c) (at b r c)
+unfolding at
+at-xors a b p q r c h k = getD-xors a b (r + 4 * c) (omega arith) (omega arith)
+
+pub invMixColumns-xors : (a b : List ℕ) → length a ≡ 16 → length b ≡ 16 → invMixColumns (xors a b) ≡ xors (invMixColumns a) (invMixColumns b)
+unfolding invMixColumns timesMatrix
+invMixColumns-xors a b p q =
+    state-is _ (xors (invMixColumns a) (invMixColumns b)) (length-xors (invMixColumns a) (invMixColumns b) ∙ omega (arith, sizes a, sizes b))
+    (λ r c h k.
+    rw
+    (sum r c h k, sum ((r + 1) % 4) c (omega arith) k, sum ((r + 2) % 4) c (omega arith) k, sum ((r + 3) % 4) c (omega arith) k)
+    (dot-xor _ _ _ _ _ _ _ _ _ _ _ _
+    ∙ sym (at-xors (invMixColumns a) (invMixColumns b) (sizes a) (sizes b) r c h k ∙ ap₂ bitXor (at-state _ r c h k) (at-state _ r c h k))))
+  where
+    sum : (r c : ℕ) → r < 4 → c < 4 → at (xors a b) r c ≡ bitXor (at a r c) (at b r c)
+    sum = at-xors a b p q
+
+    sizes : (s : List ℕ) → length (invMixColumns s) ≡ 16
+    sizes s = invMixColumns-octets s .size
+
+-- InvSubBytes and InvShiftRows in either order
+pub inverses-commute : (s : List ℕ) → invShiftRows (invSubBytes s) ≡ invSubBytes (invShiftRows s)
+unfolding invShiftRows invSubBytes state at table
+inverses-commute s = refl
 
 -- ---- round keys, of a schedule that is long enough
 

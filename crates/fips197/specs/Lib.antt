@@ -2,3 +2,4 @@ pub mod State
 pub mod Steps
 pub mod Schedule
 pub mod Cipher
+pub mod Equivalent

@@ -53,10 +53,8 @@ fn open_accepted(
 {
     let mut ctx = aes::blank();
     aes::fill(key, &mut ctx);
-    let mut inv = aes::blank_inverse();
-    aes::fill_inverse(key, &ctx, &mut inv);
     let sum = data_hash(key, &ctx, p, ad);
-    dec(key, &ctx, &inv, p, nonce, sum, ciphertext, out)
+    dec(key, &ctx, p, nonce, sum, ciphertext, out)
 }
 
 // The checks after the first, for a set that is known, and the opening.

@@ -63,7 +63,7 @@ const fn times(factor: u8) -> [u8; 256] {
 }
 
 static SBOX: [u8; 256] = sbox();
-static INV_SBOX: [u8; 256] = inverse_of(&sbox());
+pub static INV_SBOX: [u8; 256] = inverse_of(&sbox());
 static BY_2: [u8; 256] = times(0x02);
 static BY_3: [u8; 256] = times(0x03);
 static BY_9: [u8; 256] = times(0x09);
@@ -71,21 +71,22 @@ static BY_B: [u8; 256] = times(0x0b);
 static BY_D: [u8; 256] = times(0x0d);
 static BY_E: [u8; 256] = times(0x0e);
 
-type Block = [u8; 16];
+pub type Block = [u8; 16];
 
-fn sub_bytes(s: &mut Block, t: &[u8; 256]) {
+/// Section 5.1.1; with the inverse S-box, section 5.3.2.
+pub fn sub_bytes(s: &mut Block, t: &[u8; 256]) {
     for x in s {
         *x = t[*x as usize];
     }
 }
 
 /// Section 5.1.2: row r moves r places to the left.
-fn shift_rows(s: &Block) -> Block {
+pub fn shift_rows(s: &Block) -> Block {
     std::array::from_fn(|i| s[(i % 4 + 4 * (i / 4 + i % 4)) % 16])
 }
 
 /// Section 5.3.1: row r moves r places to the right.
-fn inv_shift_rows(s: &Block) -> Block {
+pub fn inv_shift_rows(s: &Block) -> Block {
     std::array::from_fn(|i| s[(i % 4 + 4 * (i / 4 + 4 - i % 4)) % 16])
 }
 
@@ -102,7 +103,7 @@ fn mix_columns(s: &mut Block) {
 }
 
 /// Section 5.3.3: each column times {0b}x^3 + {0d}x^2 + {09}x + {0e}.
-fn inv_mix_columns(s: &mut Block) {
+pub fn inv_mix_columns(s: &mut Block) {
     for c in s.chunks_exact_mut(4) {
         let [w, x, y, z] = [c[0], c[1], c[2], c[3]];
         let row = |a: u8, b: u8, c: u8, d: u8| {
@@ -115,7 +116,8 @@ fn inv_mix_columns(s: &mut Block) {
     }
 }
 
-fn add_round_key(s: &mut Block, k: &Block) {
+/// Section 5.1.4.
+pub fn add_round_key(s: &mut Block, k: &Block) {
     for (x, y) in s.iter_mut().zip(k) {
         *x ^= y;
     }
@@ -123,7 +125,7 @@ fn add_round_key(s: &mut Block, k: &Block) {
 
 /// AES under one key, expanded once.
 pub struct Aes {
-    round_keys: Vec<Block>,
+    pub round_keys: Vec<Block>,
 }
 
 impl Aes {
@@ -174,20 +176,29 @@ impl Aes {
         s
     }
 
-    /// InvCipher (section 5.3, figure 12).
+    /// InvCipher, its result alone.
     pub fn decrypt(&self, block: &Block) -> Block {
+        self.inv_cipher(block, |_| ())
+    }
+
+    /// InvCipher (section 5.3, figure 12), which shows its state after the first
+    /// AddRoundKey and after each of the Nr rounds.
+    pub fn inv_cipher(&self, block: &Block, mut show: impl FnMut(Block)) -> Block {
         let nr = self.round_keys.len() - 1;
         let mut s = *block;
         add_round_key(&mut s, &self.round_keys[nr]);
+        show(s);
         for round in (1..nr).rev() {
             s = inv_shift_rows(&s);
             sub_bytes(&mut s, &INV_SBOX);
             add_round_key(&mut s, &self.round_keys[round]);
             inv_mix_columns(&mut s);
+            show(s);
         }
         s = inv_shift_rows(&s);
         sub_bytes(&mut s, &INV_SBOX);
         add_round_key(&mut s, &self.round_keys[0]);
+        show(s);
         s
     }
 }

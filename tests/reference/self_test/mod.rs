@@ -4,6 +4,7 @@ mod calls;
 mod cmac;
 mod cmac_examples;
 mod cmac_wrong;
+mod equivalent;
 mod notation;
 mod openings;
 mod round_trips;
@@ -14,10 +15,13 @@ use std::time::Instant;
 
 pub fn self_test(seed: u64) -> Result<(), String> {
     println!("seed {seed}");
-    let parts: [(&str, fn(&mut Random) -> Result<String, String>); 12] = [
+    let parts: [(&str, fn(&mut Random) -> Result<String, String>); 15] = [
         ("AES", |_| {
             Ok(format!("{} values of FIPS 197", aes::self_test()?))
         }),
+        ("EqInvCipher", equivalent::vectors),
+        ("EqInvCipher and InvCipher", equivalent::inverses),
+        ("EqInvCipher, wrong readings", equivalent::wrong_readings),
         ("notation", notation::notation),
         ("tables", notation::tables),
         ("data", calls::data),

@@ -2,9 +2,8 @@
 -- Assumes nothing.
 use native.Mathlib.Omega.{arith}
 use borrow.Author.Needs.{needs}
-use Rattle.aes_tables.specs.Round.{forward}
 use Rattle.fips197.proofs.CipherLaws.{cipher-at}
-use Rattle.aes.proofs.ContextLaws.{length-forward, keys-at}
+use Rattle.aes.proofs.ContextLaws.{encrypts-keys}
 use Rattle.aes.proofs.cipher.encrypt.Statement.{statement}
 use Rattle.aes.proofs.cipher.encrypt.Tie as tie
 
@@ -14,4 +13,4 @@ returns c = cipher-at _ _ _ _ _ (c .before .before .round-keys .ensures .0) (c .
 pub encrypt-spec : {M : Type 1} → statement M
 encrypt-spec =
     tie.close
-    (tie.spec (λ c κs. search needs) (λ c κs. keys-at forward _ _ (c .before .before .before .pre) 2048 length-forward (omega arith)) (λ c κs. search needs) (λ c κs. search needs) returns)
+    (tie.spec (λ c κs. search needs) (λ c κs. encrypts-keys _ _ (c .before .before .before .pre)) (λ c κs. search needs) (λ c κs. search needs) returns)

@@ -5,9 +5,8 @@ use mathlib.Core.List.{List}
 use Prim.Native.Nat.{ℕ}
 use native.Mathlib.Omega.{arith}
 use borrow.Author.Needs.{needs}
-use Rattle.aes_tables.specs.Round.{forward}
 use Rattle.fips197.specs.Cipher.{rounds}
-use Rattle.aes.proofs.ContextLaws.{length-forward, keys-at}
+use Rattle.aes.proofs.ContextLaws.{encrypts-keys}
 use Rattle.aes.proofs.cipher.state_after.Statement.{statement}
 use Rattle.aes.proofs.cipher.state_after.Tie as tie
 
@@ -17,4 +16,4 @@ returns c =
     c .write .ensures ∙ c .before .full-rounds .ensures ∙ ap (λ (w : List ℕ). rounds w (at-start .args .n) (at-start .args .block)) (c .before .before .round-keys .ensures .0)
 
 pub state-after-spec : {M : Type 1} → statement M
-state-after-spec = tie.close (tie.spec (λ c κs. search needs) (λ c κs. keys-at forward _ _ (c .before .before .before .pre .0) 2048 length-forward (omega arith)) (λ c κs. search needs) (λ c κs. search needs) returns)
+state-after-spec = tie.close (tie.spec (λ c κs. search needs) (λ c κs. encrypts-keys _ _ (c .before .before .before .pre .0)) (λ c κs. search needs) (λ c κs. search needs) returns)

@@ -5,13 +5,13 @@ use lib.ListN.{length-take, length-drop}
 use borrow.Author.Needs.{needs}
 use Rattle.aes_tables.specs.Round.{forward}
 use Rattle.fips197.specs.Schedule.{keyExpansion}
-use Rattle.aes.specs.Context.{roundKeys}
+use Rattle.aes.specs.Context.{held}
 use Rattle.aes.proofs.ContextLaws.{length-forward, blank-long, context-made}
 use Rattle.aes.proofs.context.fill.Statement.{statement}
 use Rattle.aes.proofs.context.fill.Tie as tie
 
 returns : tie.Need-returns
-unfolding roundKeys
+unfolding held
 returns c =
     let at-start = c .before .before .before .before .before .before .before .before in
     record {

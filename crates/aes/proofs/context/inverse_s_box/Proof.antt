@@ -13,5 +13,5 @@ inverse-s-box-spec =
     (tie.spec
     (λ c. search needs)
     (λ c. search needs)
-    (λ c. omega (arith, holds-long inverses _ _ (c .pre) 2304 length-inverses))
-    (λ c. inverse-second _ _ (c .before .pre)))
+    (λ c. omega (arith, holds-long inverses _ _ _ (c .pre) 2304 length-inverses))
+    (λ c. inverse-second _ _ (c .before .pre .context)))

@@ -12,5 +12,5 @@ pub inverse-table-spec : {M : Type 1} → statement M
 inverse-table-spec =
     tie.close
     (tie.spec
-    (λ c. sym (length-take-le 2048 (c .before .args .inv .now) (omega (arith, holds-long inverses _ _ (c .before .pre) 2304 length-inverses))))
-    (λ c. inverse-first _ _ (c .before .pre)))
+    (λ c. sym (length-take-le 2048 (c .before .args .inv .now) (omega (arith, holds-long inverses _ _ _ (c .before .pre) 2304 length-inverses))))
+    (λ c. inverse-first _ _ (c .before .pre .context)))

@@ -11,5 +11,5 @@ pub round-table-spec : {M : Type 1} → statement M
 round-table-spec =
     tie.close
     (tie.spec
-    (λ c. sym (length-take-le 2048 (c .before .args .ctx .now) (holds-long forward _ _ (c .before .pre) 2048 length-forward)))
+    (λ c. sym (length-take-le 2048 (c .before .args .ctx .now) (holds-long forward _ _ _ (c .before .pre) 2048 length-forward)))
     (λ c. context-table _ _ (c .before .pre)))

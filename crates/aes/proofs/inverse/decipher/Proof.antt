@@ -10,8 +10,8 @@ use Rattle.aes.proofs.inverse.decipher.Tie as tie
 
 returns : tie.Need-returns
 returns c =
-    c .write .ensures ∙ c .before .add-key .ensures
-    ∙ ap (addRoundKey _ _) (c .before .before .inv-shift-sub .ensures ∙ ap (λ (s : List ℕ). invSubBytes (invShiftRows s)) (c .before .before .before .full-inv-rounds .ensures))
+    c .add-key .ensures
+    ∙ ap (addRoundKey _ _) (c .before .inv-sub-shift .ensures ∙ ap (λ (s : List ℕ). invShiftRows (invSubBytes s)) (c .before .before .full-inv-rounds .ensures))
 
 pub decipher-spec : {M : Type 1} → statement M
-decipher-spec = tie.close (tie.spec (λ c κs. search needs) (λ c κs. search needs) (λ c κs. search needs) (λ c κs. search needs) returns)
+decipher-spec = tie.close (tie.spec (λ c. search needs) (λ c κs. search needs) (λ c κs. search needs) (λ c κs. search needs) returns)

@@ -1,29 +1,15 @@
 -- `aes::table::add_key` meets its contract.
 -- Assumes nothing.
+use mathlib.Core.Path.{ap, _∙_}
 use borrow.Author.Needs.{needs}
-use Rattle.aes.proofs.TableLaws.{added-bytes}
+use Rattle.octets.specs.Xor.{xors}
+use Rattle.fips197.specs.Steps.{addRoundKey}
 use Rattle.aes.proofs.table.add_key.Statement.{statement}
 use Rattle.aes.proofs.table.add_key.Tie as tie
 
 returns : tie.Need-returns
-returns c =
-    let at = c .before .before .before .before .before .before .before .before .before in
-    let a = at .args in
-    added-bytes (a .w .now) (a .n) (at .pre) (a .k) _ _ _ _ (c .before .before .before .before .before .before .before .word-at .ensures) (c .before .before .before .before .before .word-at2 .ensures) (c .before .before .before .word-at3 .ensures) (c .before .word-at4 .ensures)
+unfolding addRoundKey
+returns c = c .xor-words .ensures ∙ ap (xors _) (c .before .words-at .ensures)
 
 pub add-key-spec : {M : Type 1} → statement M
-add-key-spec =
-    tie.close
-    (tie.spec
-    (λ c. search needs)
-    (λ c κs. search needs)
-    (λ c. search needs)
-    (λ c. search needs)
-    (λ c κs. search needs)
-    (λ c. search needs)
-    (λ c. search needs)
-    (λ c κs. search needs)
-    (λ c. search needs)
-    (λ c. search needs)
-    (λ c κs. search needs)
-    returns)
+add-key-spec = tie.close (tie.spec (λ c. search needs) (λ c κs. search needs) (λ c κs. search needs) returns)

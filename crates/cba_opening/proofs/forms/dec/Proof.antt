@@ -16,16 +16,16 @@ returns : tie.Need-returns
 returns c =
     let at-start = c .before .before .before .before .before .before .before .before .before in
     let a = at-start .args in
-    open-good (cipher (a .key .now)) (invCipher (a .key .now)) (a .p .tau) (a .p .capacity) (a .nonce .now) (dataTag (a .p) (a .sum)) (a .ciphertext .now) (a .out .now) (c .before .before .before .attempted .last .1 .1 .1 .1 .1 .1 .1 .0) (length (a .ciphertext .now) - tagBytes (a .p .tau)) _
-    (at-start .pre .1 .1 .least) (c .before .before .before .attempted .ensures) (c .if1 .taken)
+    open-good (cipher (a .key .now)) (invCipher (a .key .now)) (a .p .tau) (a .p .capacity) (a .nonce .now) (dataTag (a .p) (a .sum)) (a .ciphertext .now) (a .out .now) (c .before .before .before .attempted .last .1 .1 .1 .1 .1 .1 .0) (length (a .ciphertext .now) - tagBytes (a .p .tau)) _
+    (at-start .pre .1 .least) (c .before .before .before .attempted .ensures) (c .if1 .taken)
 
 returns-2 : tie.Need-returns-2
 returns-2 c =
     let at-start = c .before .before .before .before .before .before .before .before .before .before .before .before .before .before in
     let a = at-start .args in
-    let q = at-start .pre .1 .1 in
-    open-bad (cipher (a .key .now)) (invCipher (a .key .now)) (a .p .tau) (a .p .capacity) (a .nonce .now) (dataTag (a .p) (a .sum)) (a .ciphertext .now) (a .out .now) (c .before .before .before .before .before .before .before .before .attempted .last .1 .1 .1 .1 .1 .1 .1 .0) (c .before .before .clear .last .0) (length (a .ciphertext .now) - tagBytes (a .p .tau)) _ _
-    (q .least) (c .before .before .before .before .before .before .before .before .attempted .ensures) (c .before .before .before .before .before .if1 .left) (c .before .before .before .before .before .before .before .before .attempted .kept .1 .1 .1 .1 .1 .1 .1 .0) (omega (arith, q .room)) (ap (λ (n : ℕ). length (a .ciphertext .now) - n) (c .before .before .before .tag-bytes .ensures)) (c .before .before .clear .ensures)
+    let q = at-start .pre .1 in
+    open-bad (cipher (a .key .now)) (invCipher (a .key .now)) (a .p .tau) (a .p .capacity) (a .nonce .now) (dataTag (a .p) (a .sum)) (a .ciphertext .now) (a .out .now) (c .before .before .before .before .before .before .before .before .attempted .last .1 .1 .1 .1 .1 .1 .0) (c .before .before .clear .last .0) (length (a .ciphertext .now) - tagBytes (a .p .tau)) _ _
+    (q .least) (c .before .before .before .before .before .before .before .before .attempted .ensures) (c .before .before .before .before .before .if1 .left) (c .before .before .before .before .before .before .before .before .attempted .kept .1 .1 .1 .1 .1 .1 .0) (omega (arith, q .room)) (ap (λ (n : ℕ). length (a .ciphertext .now) - n) (c .before .before .before .tag-bytes .ensures)) (c .before .before .clear .ensures)
 
 pub dec-spec : {M : Type 1} → statement M
 dec-spec =
@@ -35,7 +35,7 @@ dec-spec =
     (λ c. search needs)
     returns
     (λ c κs. search needs)
-    (λ c. omega (arith, c .tag-bytes .ensures, c .before .before .before .before .before .before .before .before .before .before .before .pre .1 .1 .least))
-    (λ c κs. omega (arith, c .tag-bytes .ensures, c .before .before .before .before .before .attempted .kept .1 .1 .1 .1 .1 .1 .1 .0, c .before .before .before .before .before .before .before .before .before .before .before .pre .1 .1 .room))
+    (λ c. omega (arith, c .tag-bytes .ensures, c .before .before .before .before .before .before .before .before .before .before .before .pre .1 .least))
+    (λ c κs. omega (arith, c .tag-bytes .ensures, c .before .before .before .before .before .attempted .kept .1 .1 .1 .1 .1 .1 .0, c .before .before .before .before .before .before .before .before .before .before .before .pre .1 .room))
     (λ c. search needs)
     returns-2)

@@ -1,6 +1,6 @@
 -- `cba_sealing::pieces::full_blocks` meets its contract: after i turns i blocks are sealed.
 -- Assumes nothing.
-use mathlib.Core.Path.{_≡_}
+use mathlib.Core.Path.{_≡_, refl}
 use Prim.Native.Nat.{_-_}
 use lib.ListN.{length}
 use borrow.Author.Needs.{needs}
@@ -34,7 +34,7 @@ again c =
 returns : tie.Need-returns Inv-loop μ-loop
 returns c =
     let at-loop = c .before .before in
-    turned-all (rw (at-loop .before .split .ensures) at (at-loop .loop .inv)) (c .before .loop-test .left) _ (c .whole2 .ensures)
+    turned-all (rw (at-loop .before .split .ensures) at (at-loop .loop .inv)) (c .before .loop-test .left) _ _ (c .whole2 .ensures) refl
 
 pub full-blocks-spec : {M : Type 1} → statement M
 full-blocks-spec =

@@ -1,20 +1,20 @@
--- `aes::inverse::inv_shift_sub` meets its contract: the table that is lent is the inverse S-box.
+-- `aes::inverse::inv_sub_shift` meets its contract: the table that is lent is the inverse S-box.
 -- Assumes nothing.
 use mathlib.Core.Path.{ap, _∙_}
 use lib.ListN.{length}
 use Rattle.octets.proofs.Strings.{length-table}
 use Rattle.field.specs.SBox.{invSBox}
 use Rattle.aes.proofs.TableLaws.{unshift-block}
-use Rattle.aes.proofs.inverse.inv_shift_sub.Statement.{statement}
-use Rattle.aes.proofs.inverse.inv_shift_sub.Tie as tie
+use Rattle.aes.proofs.inverse.inv_sub_shift.Statement.{statement}
+use Rattle.aes.proofs.inverse.inv_sub_shift.Tie as tie
 
 returns : tie.Need-returns
 returns c =
     let at = c .before .before .before .before .before in
-    unshift-block _ (at .args .k) _ _ _ _ (at .pre) (c .before .before .before .look-up .ensures) (c .before .before .look-up2 .ensures) (c .before .look-up3 .ensures) (c .look-up4 .ensures)
+    unshift-block _ (at .pre) (at .args .k) _ _ _ _ (c .before .before .before .look-up .ensures) (c .before .before .look-up2 .ensures) (c .before .look-up3 .ensures) (c .look-up4 .ensures)
 
-pub inv-shift-sub-spec : {M : Type 1} → statement M
-inv-shift-sub-spec =
+pub inv-sub-shift-spec : {M : Type 1} → statement M
+inv-sub-shift-spec =
     tie.close
     (tie.spec
     (λ c κs. ap length (c .before .pre) ∙ length-table invSBox 256)
