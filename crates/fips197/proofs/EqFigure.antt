@@ -1,4 +1,4 @@
--- The figure of the equivalent inverse cipher, written out for two rounds.
+-- The figure of the equivalent inverse cipher, written out for three rounds.
 -- Assumes nothing.
 use mathlib.Core.Path.{refl}
 use mathlib.Core.List.{List}
@@ -18,5 +18,9 @@ written-out w dw s =
       step-5 = refl;
       step-6 = refl;
       step-7 = refl;
+      step-8 = refl;
+      step-9 = refl;
+      step-10 = refl;
+      step-11 = refl;
       whole = refl;
     }

@@ -66,18 +66,22 @@ eqState dw nr (suc k) s = eqStep dw nr (suc k / 4) (suc k % 4) (eqState dw nr k 
 
 -- ---- what is proved
 
--- the figure written out for nr = 2, over any schedule and any block
+-- the figure written out for nr = 3, over any schedule and any block
 pub record EqFigure (w dw s : List ℕ) : Type 0 where
-  pub schedule : modified w 2 ≡ (block 16 w 0 ++ invMixColumns (block 16 w 1)) ++ block 16 w 2
-  pub step-0 : eqState dw 2 0 s ≡ addRoundKey dw 2 s
-  pub step-1 : eqState dw 2 1 s ≡ invSubBytes (eqState dw 2 0 s)
-  pub step-2 : eqState dw 2 2 s ≡ invShiftRows (eqState dw 2 1 s)
-  pub step-3 : eqState dw 2 3 s ≡ invMixColumns (eqState dw 2 2 s)
-  pub step-4 : eqState dw 2 4 s ≡ addRoundKey dw 1 (eqState dw 2 3 s)
-  pub step-5 : eqState dw 2 5 s ≡ invSubBytes (eqState dw 2 4 s)
-  pub step-6 : eqState dw 2 6 s ≡ invShiftRows (eqState dw 2 5 s)
-  pub step-7 : eqState dw 2 7 s ≡ addRoundKey dw 0 (eqState dw 2 6 s)
-  pub whole : eqInvCipherOver dw 2 s ≡ eqState dw 2 7 s
+  pub schedule : modified w 3 ≡ ((block 16 w 0 ++ invMixColumns (block 16 w 1)) ++ invMixColumns (block 16 w 2)) ++ block 16 w 3
+  pub step-0 : eqState dw 3 0 s ≡ addRoundKey dw 3 s
+  pub step-1 : eqState dw 3 1 s ≡ invSubBytes (eqState dw 3 0 s)
+  pub step-2 : eqState dw 3 2 s ≡ invShiftRows (eqState dw 3 1 s)
+  pub step-3 : eqState dw 3 3 s ≡ invMixColumns (eqState dw 3 2 s)
+  pub step-4 : eqState dw 3 4 s ≡ addRoundKey dw 2 (eqState dw 3 3 s)
+  pub step-5 : eqState dw 3 5 s ≡ invSubBytes (eqState dw 3 4 s)
+  pub step-6 : eqState dw 3 6 s ≡ invShiftRows (eqState dw 3 5 s)
+  pub step-7 : eqState dw 3 7 s ≡ invMixColumns (eqState dw 3 6 s)
+  pub step-8 : eqState dw 3 8 s ≡ addRoundKey dw 1 (eqState dw 3 7 s)
+  pub step-9 : eqState dw 3 9 s ≡ invSubBytes (eqState dw 3 8 s)
+  pub step-10 : eqState dw 3 10 s ≡ invShiftRows (eqState dw 3 9 s)
+  pub step-11 : eqState dw 3 11 s ≡ addRoundKey dw 0 (eqState dw 3 10 s)
+  pub whole : eqInvCipherOver dw 3 s ≡ eqState dw 3 11 s
 
 -- Under every key and on every block EqInvCipher is InvCipher, and the State after n whole rounds is InvCipher's. Over every
 -- schedule the State after step 4 n is that after n whole rounds, and the State after the last step is the result.
