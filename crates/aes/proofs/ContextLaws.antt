@@ -1,7 +1,7 @@
 -- The context as it is made, and as the rounds read it.
 -- Assumes nothing.
 use mathlib.Core.Path.{_≡_, refl, ap, _∙_}
-use mathlib.Core.Bool.{Bool, true, false, cond}
+use mathlib.Core.Bool.{true, false}
 use mathlib.Core.List.{List, [], _++_, append-nil, append-assoc}
 use Prim.Native.Nat.{ℕ, suc, _+_, _-_, _*_, _<_, _≤_}
 use native.Mathlib.Omega.{arith}
@@ -18,6 +18,7 @@ use Rattle.fips197.specs.Schedule.{isKey, keyExpansion}
 use Rattle.fips197.specs.Equivalent.{keyExpansionEIC}
 use Rattle.fips197.specs.Cipher.{keyRounds}
 use Rattle.fips197.proofs.ScheduleLaws.{key-words, keyExpansion-octets}
+use Rattle.fips197.proofs.EquivalentLaws.{either-size}
 use Rattle.fips197.proofs.Equivalent.{length-EIC}
 use Rattle.aes.specs.Tables.{Entries}
 use Rattle.aes.proofs.TableLaws.{table-entries}
@@ -62,11 +63,7 @@ pub decrypts-keys : (key inv : List ℕ) → Decrypts key inv → KeysAt 2304 ke
 decrypts-keys key inv h = record { good = h .good; within = omega arith; stand = parts inverses _ key inv h 2304 length-inverses .1 }
 
 pub length-schedule : (at : ℕ) (key : List ℕ) → Bytes key → isKey key ≡ true → length (scheduleAt at key) ≡ 16 * suc (keyRounds key)
-length-schedule at key b h = either (eqb at 2048) (keyExpansion key) (keyExpansionEIC key) (keyExpansion-octets key b (key-words key h) .size ∙ omega arith) (length-EIC key b h)
-  where
-    either : (t : Bool) (x y : List ℕ) {n : ℕ} → length x ≡ n → length y ≡ n → length (cond t x y) ≡ n
-    either true x y p q = p
-    either false x y p q = q
+length-schedule at key b h = either-size (eqb at 2048) (keyExpansion key) (keyExpansionEIC key) (keyExpansion-octets key b (key-words key h) .size ∙ omega arith) (length-EIC key b h)
 
 -- a key that is good, and one that is not
 pub answer-good : (key : List ℕ) → isKey key ≡ true → 0 ≡ answer key

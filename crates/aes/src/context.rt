@@ -77,13 +77,14 @@ pub fn fill_inverse(key: &[u8], ctx: &Context, inv: &mut [u8])
     let t = round_table(key, c);
     let w = round_keys(key, c, KEYS);
     let nr = rounds_of(key);
-    octets::put(&mut inv[INVERSE_KEYS..], w);
+    octets::put(&mut inv[INVERSE_KEYS..], &w[..16]);
     let mut i = 0;
     while i < nr - 1 {
         let m = write(inv_mix_key(t, &inv[..INVERSE_BOX], w, i + 1));
         octets::put(&mut inv[INVERSE_KEYS + 16 * (i + 1)..], &m);
         i += 1;
     }
+    octets::put(&mut inv[INVERSE_KEYS + 16 * nr..], &w[16 * nr..]);
 }
 
 // The parts that the rounds read.

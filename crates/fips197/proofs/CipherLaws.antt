@@ -10,7 +10,7 @@ use lib.ListN.{length}
 use Rattle.octets.specs.Strings.{Bytes, Octets}
 use Rattle.fips197.specs.Schedule.{keyExpansion}
 use Rattle.fips197.specs.Steps.{subBytes, shiftRows, mixColumns, addRoundKey, invSubBytes, invShiftRows, invMixColumns}
-use Rattle.fips197.specs.Cipher.{fullRound, rounds, cipherOver, fullInvRound, invRounds, invCipherOver, keyRounds, cipher}
+use Rattle.fips197.specs.Cipher.{fullRound, rounds, cipherOver, invRounds, invCipherOver, keyRounds, cipher}
 use Rattle.fips197.proofs.StepLaws.{subBytes-octets, invSubBytes-octets, invSubBytes-subBytes, subBytes-invSubBytes, shiftRows-octets, invShiftRows-octets, invShiftRows-shiftRows, shiftRows-invShiftRows, mixColumns-octets, invMixColumns-octets, invMixColumns-mixColumns, mixColumns-invMixColumns, addRoundKey-octets, addRoundKey-twice}
 
 -- one more round

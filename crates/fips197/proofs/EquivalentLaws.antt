@@ -6,7 +6,7 @@ use mathlib.Core.List.{List, [], _++_, append-assoc, append-nil}
 use Prim.Native.Nat.{ℕ, zero, suc, _+_, _-_, _*_, _/_, _%_, _<_, _≤_}
 use native.Mathlib.Numerals.{add-one}
 use native.Mathlib.Omega.{arith}
-use lib.ListN.{length, take, drop, length-append}
+use lib.ListN.{length, take, length-append}
 use lib.Seq.{take-at, drop-at}
 use lib.Dec.{ltb}
 use borrow.Author.Tests.{ltb-true, ltb-false, lt-ltb, le-ltb, eq-eqb, ne-eqb}
@@ -18,16 +18,17 @@ use Rattle.fips197.specs.Cipher.{fullInvRound, invRounds, invCipherOver}
 use Rattle.fips197.specs.Equivalent.{between, modifiedKey, modifiedKeys, modified, eqFullRound, eqRounds, eqInvCipherOver, eqStep, eqState}
 use Rattle.fips197.proofs.StepLaws.{invSubBytes-octets, invMixColumns-octets, invMixColumns-xors, inverses-commute}
 
+-- one of two strings of n bytes has n
+pub either-size : (t : Bool) (x y : List ℕ) {n : ℕ} → length x ≡ n → length y ≡ n → length (cond t x y) ≡ n
+either-size true x y p q = p
+either-size false x y p q = q
+
 -- ---- the modified schedule, of a schedule that is long enough
 
 module _ (w : List ℕ) (nr : ℕ) (room : 16 * suc nr ≤ length w) where
-  key-size : (n : ℕ) → n ≤ nr → length (modifiedKey w nr n) ≡ 16
+  pub key-size : (n : ℕ) → n ≤ nr → length (modifiedKey w nr n) ≡ 16
   unfolding modifiedKey
-  key-size n h = either (between nr n) (invMixColumns (block 16 w n)) (block 16 w n) (invMixColumns-octets (block 16 w n) .size) (length-block 16 w n (omega arith))
-    where
-      either : (t : Bool) (x y : List ℕ) → length x ≡ 16 → length y ≡ 16 → length (cond t x y) ≡ 16
-      either true x y p q = p
-      either false x y p q = q
+  key-size n h = either-size (between nr n) (invMixColumns (block 16 w n)) (block 16 w n) (invMixColumns-octets (block 16 w n) .size) (length-block 16 w n (omega arith))
 
   pub length-keys : (n : ℕ) → n ≤ suc nr → length (modifiedKeys w nr n) ≡ 16 * n
   unfolding modifiedKeys

@@ -1,6 +1,5 @@
 -- `aes::cipher::encrypt` meets its contract: the context holds the table and the schedule that the rounds read.
 -- Assumes nothing.
-use native.Mathlib.Omega.{arith}
 use borrow.Author.Needs.{needs}
 use Rattle.fips197.proofs.CipherLaws.{cipher-at}
 use Rattle.aes.proofs.ContextLaws.{encrypts-keys}

@@ -3,7 +3,6 @@
 use mathlib.Core.Path.{ap, ap₂, _∙_}
 use mathlib.Core.List.{List}
 use Prim.Native.Nat.{ℕ}
-use native.Mathlib.Omega.{arith}
 use borrow.Author.Needs.{needs}
 use Rattle.fips197.specs.Equivalent.{eqState}
 use Rattle.aes.proofs.ContextLaws.{decrypts-keys}

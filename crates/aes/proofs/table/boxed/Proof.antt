@@ -1,6 +1,5 @@
 -- `aes::table::boxed` meets its contract.
 -- Assumes nothing.
-use mathlib.Core.Path.{refl}
 use borrow.Author.Needs.{needs}
 use Rattle.aes.proofs.TableLaws.{entry-second}
 use Rattle.aes.proofs.table.boxed.Statement.{statement}
