@@ -24,7 +24,7 @@ pub record Holds (tables w key ctx : List ℕ) : Type 0 where
   pub good : isKey key ≡ true
   pub context : ctx ≡ tables ++ held w
 
--- what E under a key reads, in 2,288 bytes, and D, in 2,544: EqInvCipher's schedule
+-- what E under a key reads, in 2,288 bytes, and what D reads, in 2,544, whose schedule is EqInvCipher's
 abbrev pub Encrypts : List ℕ → List ℕ → Type 0
 Encrypts key ctx = Holds forward (keyExpansion key) key ctx
 
