@@ -111,6 +111,22 @@ refused (y ∷ xs) x ys own e = go (λ k. refused xs x ys (own-rest y (xs ++ (x 
     go rest true w k = absurd (own-first y (xs ++ (x ∷ ys)) own (x .number) (number-in xs x ys) (rw w at k))
     go rest false w k = let r = rest (rw w at k) in ((w, r .0), r .1)
 
+-- a row whose number is not the answer may be left out
+pub without : (xs : List Row) (x : Row) (ys : List Row) → (answer (xs ++ (x ∷ ys)) ≡ x .number → ⊥) → answer (xs ++ (x ∷ ys)) ≡ answer (xs ++ ys)
+unfolding answer
+without [] x ys n = go (x .when) refl n
+  where
+    go : (b : Bool) → x .when ≡ b → (cond (x .when) (x .number) (answer ys) ≡ x .number → ⊥) → cond (x .when) (x .number) (answer ys) ≡ answer ys
+    go true w k = absurd (k (rw w refl))
+    go false w k = rw w refl
+without (y ∷ xs) x ys n = go (λ k. without xs x ys k) (y .when) refl n
+  where
+    go : ((answer (xs ++ (x ∷ ys)) ≡ x .number → ⊥) → answer (xs ++ (x ∷ ys)) ≡ answer (xs ++ ys)) → (b : Bool) → y .when ≡ b →
+        (cond (y .when) (y .number) (answer (xs ++ (x ∷ ys))) ≡ x .number → ⊥) →
+        cond (y .when) (y .number) (answer (xs ++ (x ∷ ys))) ≡ cond (y .when) (y .number) (answer (xs ++ ys))
+    go rest true w k = rw w refl
+    go rest false w k = rw w (rest (rw w at k))
+
 -- the one statement about a list of rows
 pub decides : (rows : List Row) → ownNumbers (numbers rows) ≡ true → Decides rows (answer rows)
 decides rows own =

@@ -31,7 +31,8 @@ table =
     ∷ entry 9 "stale" "ledger: nonce not above the last accepted"
     ∷ entry 10 "spent" "ledger: total + charge above 2^b"
     ∷ entry 11 "line" "program: malformed line"
-    ∷ entry 12 "console" "ledger: the nonce's first two bytes are another number than the ledger's"
+    ∷ entry 12 "console" "the nonce begins with another number than the ledger's, two bytes, or the receiver's, four"
     ∷ entry 13 "name" "ledger: a name above 7 or, in a sealing, one with nothing kept"
     ∷ entry 14 "mark" "the mark's length outside 4 to 16"
+    ∷ entry 15 "repeat" "receiver: a counter accepted before, or 64 or more below the highest"
     ∷ []

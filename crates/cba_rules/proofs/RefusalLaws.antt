@@ -80,12 +80,12 @@ ciphertext-passed t ciphertext out p =
 -- ---- what a refusal leaves
 
 -- 8: zeros over the first n bytes, and the others as before
-false-leaves : (n : ℕ) (M out : List ℕ) → openLeaves 8 n M out ≡ replicate n 0 ++ drop n out
+pub false-leaves : (n : ℕ) (M out : List ℕ) → openLeaves 8 n M out ≡ replicate n 0 ++ drop n out
 unfolding openLeaves
 false-leaves n M out = ap (λ (k : ℕ). replicate n 0 ++ drop k out) (length-replicate n 0)
 
 -- every other refusal: nothing is written
-open-untouched : (a n : ℕ) (M out : List ℕ) → (a ≡ 0 → ⊥) → (a ≡ 8 → ⊥) → openLeaves a n M out ≡ out
+pub open-untouched : (a n : ℕ) (M out : List ℕ) → (a ≡ 0 → ⊥) → (a ≡ 8 → ⊥) → openLeaves a n M out ≡ out
 unfolding openLeaves
 open-untouched a n M out p q = rw (ne-eqb a 0 p, ne-eqb a 8 q)
 

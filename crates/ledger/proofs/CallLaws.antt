@@ -8,7 +8,6 @@ use native.Mathlib.Omega.{arith}
 use borrow.Author.Tests.{ne-eqb}
 use lib.Dec.{eqb}
 use lib.ListN.{length, take, drop}
-use lib.Seq.{length-take-le}
 use Rattle.octets.specs.Strings.{over}
 use Rattle.octets.proofs.Parts.{size-of}
 use Rattle.answers.specs.Rows.{Row, answer, firstOf, numbers, isIn, ownNumbers}
@@ -106,11 +105,6 @@ unknown-refused l N S M out h = ledger-refused l N S M out 1 (rw (is-unknown (l 
 
 -- the part of the key that a call uses
 module _ (l : Ledger) (p : Parameters) (n : ℕ) (known : lookupOf (l .set) ≡ Known p) (e : n ≡ p .key / 8) where
-  pub key-part : length (l .key) ≡ 32 → (n ≤ length (l .key)) × (n ≡ length (take n (l .key)))
-  key-part k =
-      let m : n ≤ length (l .key) = omega (arith, e ∙ its-key (l .set) p known, key-most (l .set) (is-known (l .set) p known), k) in
-      (m, sym (length-take-le n (l .key) m))
-
   pub part-is : take n (l .key) ≡ keyOf l
   unfolding keyOf
   part-is = ap (λ (i : ℕ). take i (l .key)) (e ∙ its-key (l .set) p known)

@@ -17,56 +17,29 @@
 //         output, 12 the message's seed, 13.. the nonce
 //   carry: byte 0 is 7
 //
-// Data, message and what the output holds before a call are made from their seeds by `fill`; the output's
+// Data, message and what the output holds before a call are made from their seeds by `script::fill`; the output's
 // seed is 165. The files stdin and stdout beside src/ are what tests/ledger_model writes, the
 // ledger written a second time, which ./test makes again and compares.
 mod lines;
 
 use crate::lines::print_call;
 use crate::lines::print_ledger;
-use crate::lines::print_number;
-use crate::lines::print_output;
 use ledger::Heading;
 use ledger::Ledger;
 use ledger::NOTHING;
 use ledger::Outcome;
 use libc::STDIN_FILENO;
-ghost use Prim.Native.Nat.{_≤_};
+use script::fill;
+use script::least;
+use script::length;
+use script::long_number;
+use script::number;
+use script::print_number;
+use script::print_output;
 ghost use Rattle.ledger.specs.Values.{Ran};
-
-fn least(a: usize, b: usize) -> usize
-    ensures { λ r. ⌜ (r ≤ a) × (r ≤ b) ⌝ }
-{
-    if a < b { a } else { b }
-}
-
-fn number(a: u8, b: u8, c: u8, d: u8) -> u32 {
-    (a as u32) * 16777216 + (b as u32) * 65536 + (c as u32) * 256 + (d as u32)
-}
 
 fn short_number(a: u8, b: u8) -> u16 {
     (a as u16) * 256 + b as u16
-}
-
-fn long_number(high: u32, low: u32) -> u64 {
-    (high as u64) * 4294967296 + (low as u64)
-}
-
-fn length(a: u8, b: u8, c: u8) -> usize {
-    number(0, a, b, c) as usize
-}
-
-// The byte at a place of a string with a seed.
-fn byte_at(seed: u8, i: usize) -> u8 {
-    ((seed as usize + i % 251) % 256) as u8
-}
-
-fn fill(s: &mut [u8], seed: u8) {
-    let mut i = 0;
-    while i < s.len() {
-        s[i] = byte_at(seed, i);
-        i += 1;
-    }
 }
 
 fn made(r: [u8; 64]) -> Ledger {

@@ -6,7 +6,8 @@ use mathlib.Core.List.{List, [], _∷_}
 use Prim.Native.Nat.{ℕ, _/_, _%_, _<_, _≤_}
 use native.Mathlib.Omega.{arith}
 use lib.Dec.{T, leb}
-use lib.ListN.{getD}
+use lib.ListN.{length, take, getD}
+use lib.Seq.{length-take-le}
 use borrow.Author.Tests.{lt-leb, le-leb}
 use Rattle.octets.proofs.Tests.{agree, same}
 use Rattle.cba_steps.specs.declared.parameters.Parameters.{Parameters}
@@ -14,6 +15,7 @@ use Rattle.plain.specs.declared.sets.Set.{Set}
 use Rattle.plain.specs.declared.sets.Set.the-variants.{Known, Unknown}
 use Rattle.cba_mode.specs.Sets.{isSet, column, keyBytes, tagBytes}
 use Rattle.cba_rules.specs.Checks.{setTag}
+use Rattle.cba_rules.proofs.SetLaws.{key-most}
 use Rattle.answers.specs.Rows.{answer}
 use Rattle.plain.specs.Lookup.{lookupOf, numberOf, valuesOf, Lookups}
 
@@ -101,3 +103,10 @@ its-key set p h = ap (λ (x : ℕ). x / 8) (its-values set p h .0)
 
 pub its-tag : (set : ℕ) (p : Parameters) → lookupOf set ≡ Known p → tagBytes (p .tau) ≡ setTag set
 its-tag set p h = ap tagBytes (its-values set p h .1)
+
+-- the part of a key of 32 bytes that a set uses
+pub key-part : (set : ℕ) (p : Parameters) (n : ℕ) (key : List ℕ) → lookupOf set ≡ Known p → n ≡ p .key / 8 → length key ≡ 32 →
+    (n ≤ length key) × (n ≡ length (take n key))
+key-part set p n key h e k =
+    let m : n ≤ length key = omega (arith, e ∙ its-key set p h, key-most set (is-known set p h), k) in
+    (m, sym (length-take-le n key m))

@@ -5,7 +5,8 @@ use native.Mathlib.Omega.{arith}
 use lib.ListN.{length}
 use Rattle.ledger_rules.proofs.LedgerLaws.{total-word, keep-accepted}
 use Rattle.ledger.specs.Values.{valueOf}
-use Rattle.ledger.proofs.CallLaws.{key-part, part-key}
+use Rattle.plain.proofs.SetLaws.{key-part}
+use Rattle.ledger.proofs.CallLaws.{part-key}
 use Rattle.ledger.proofs.HeadingLaws.{its-name, kept-call}
 use borrow.Author.Needs.{needs}
 use Rattle.ledger.proofs.headings.kept.Statement.{statement}
@@ -15,13 +16,13 @@ array-share-prefix-key : tie.Need-array-share-prefix-key
 array-share-prefix-key c =
     let s = c .before .before .before in
     let l : length (s .args .l .key) ≡ 32 = search needs in
-    key-part (valueOf (s .args .l)) (s .args .p) _ (s .pre .0) (c .key-bytes .ensures) l .0
+    key-part (s .args .l .set) (s .args .p) _ (s .args .l .key) (s .pre .0) (c .key-bytes .ensures) l .0
 
 slice-aggregate-sum-of : tie.Need-slice-aggregate-sum-of
 slice-aggregate-sum-of c =
     let s = c .before .before .before .before in
     let l : length (s .args .l .key) ≡ 32 = search needs in
-    key-part (valueOf (s .args .l)) (s .args .p) _ (s .pre .0) (c .before .key-bytes .ensures) l .1
+    key-part (s .args .l .set) (s .args .p) _ (s .args .l .key) (s .pre .0) (c .before .key-bytes .ensures) l .1
 
 sum-of-requires : tie.Need-sum-of-requires
 sum-of-requires c κs =

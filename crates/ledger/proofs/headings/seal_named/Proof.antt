@@ -7,7 +7,8 @@ use lib.ListN.{length}
 use Rattle.ledger_rules.specs.Ledger.{Heading, charged, sealCharge}
 use Rattle.ledger_rules.proofs.LedgerLaws.{total-word, ledger-accepted}
 use Rattle.ledger.specs.Values.{valueOf}
-use Rattle.ledger.proofs.CallLaws.{key-part, part-key, named-call, named-seals}
+use Rattle.plain.proofs.SetLaws.{key-part}
+use Rattle.ledger.proofs.CallLaws.{part-key, named-call, named-seals}
 use Rattle.ledger.proofs.HeadingLaws.{named-name}
 use borrow.Author.Needs.{needs}
 use Rattle.ledger.proofs.headings.seal_named.Statement.{statement}
@@ -20,13 +21,13 @@ array-share-prefix-key : tie.Need-array-share-prefix-key
 array-share-prefix-key c =
     let s = c .before .before .before .before .before .before .before in
     let l : length (s .args .l .key) ≡ 32 = search needs in
-    key-part (valueOf (s .args .l)) (s .args .p) _ (s .pre .0) (c .before .before .key-bytes .ensures) l .0
+    key-part (s .args .l .set) (s .args .p) _ (s .args .l .key) (s .pre .0) (c .before .before .key-bytes .ensures) l .0
 
 slice-aggregate-seal-with : tie.Need-slice-aggregate-seal-with
 slice-aggregate-seal-with c =
     let s = c .before .before .before .before .before .before .before .before in
     let l : length (s .args .l .key) ≡ 32 = search needs in
-    key-part (valueOf (s .args .l)) (s .args .p) _ (s .pre .0) (c .before .before .before .key-bytes .ensures) l .1
+    key-part (s .args .l .set) (s .args .p) _ (s .args .l .key) (s .pre .0) (c .before .before .before .key-bytes .ensures) l .1
 
 seal-with-requires : tie.Need-seal-with-requires
 seal-with-requires c κs =

@@ -7,7 +7,8 @@ use lib.ListN.{length}
 use Rattle.ledger_rules.specs.Ledger.{charged, sealCharge}
 use Rattle.ledger_rules.proofs.LedgerLaws.{ledger-accepted, total-word}
 use Rattle.ledger.specs.Values.{valueOf}
-use Rattle.ledger.proofs.CallLaws.{key-part, accepted-call}
+use Rattle.plain.proofs.SetLaws.{key-part}
+use Rattle.ledger.proofs.CallLaws.{accepted-call}
 use borrow.Author.Needs.{needs}
 use Rattle.ledger.proofs.ledger.accepted.Statement.{statement}
 use Rattle.ledger.proofs.ledger.accepted.Tie as tie
@@ -16,13 +17,13 @@ array-share-prefix-key : tie.Need-array-share-prefix-key
 array-share-prefix-key c =
     let s = c .before .before .before .before .before .before in
     let l : length (s .args .l .key) ≡ 32 = search needs in
-    key-part (valueOf (s .args .l)) (s .args .p) _ (s .pre .0) (c .key-bytes .ensures) l .0
+    key-part (s .args .l .set) (s .args .p) _ (s .args .l .key) (s .pre .0) (c .key-bytes .ensures) l .0
 
 slice-aggregate-seal-plain : tie.Need-slice-aggregate-seal-plain
 slice-aggregate-seal-plain c =
     let s = c .before .before .before .before .before .before .before in
     let l : length (s .args .l .key) ≡ 32 = search needs in
-    key-part (valueOf (s .args .l)) (s .args .p) _ (s .pre .0) (c .before .key-bytes .ensures) l .1
+    key-part (s .args .l .set) (s .args .p) _ (s .args .l .key) (s .pre .0) (c .before .key-bytes .ensures) l .1
 
 next-requires : tie.Need-next-requires
 unfolding sealCharge

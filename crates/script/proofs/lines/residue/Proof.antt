@@ -1,11 +1,11 @@
--- `ledger_script::lines::residue` is safe and ends: what is kept is below 2^56, so that another byte goes beside it.
+-- `script::lines::residue` is safe and ends: what is kept is below 2^56, so that another byte goes beside it.
 -- Assumes nothing.
 use Prim.Native.Nat.{_≤_, _-_}
 use native.Mathlib.Omega.{arith}
 use lib.ListN.{length}
 use borrow.Author.Needs.{needs}
-use Rattle.ledger_script.proofs.lines.residue.Statement.{statement}
-use Rattle.ledger_script.proofs.lines.residue.Tie as tie
+use Rattle.script.proofs.lines.residue.Statement.{statement}
+use Rattle.script.proofs.lines.residue.Tie as tie
 
 abbrev Inv-loop : tie.InvT-loop
 Inv-loop s r₀ i₀ r i = (i ≤ length s) × (r ≤ 72057594037927930)

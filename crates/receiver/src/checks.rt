@@ -1,0 +1,89 @@
+// The checks of a receiver's calls, in their groups.
+use crate::nonce::counter_of;
+use crate::nonce::prefix_of;
+use crate::window::Window;
+use crate::window::is_repeat;
+use cba_steps::Parameters;
+use plain::Set;
+use plain::ad_check;
+use plain::ciphertext_check;
+use plain::first_of;
+use plain::key_check;
+use plain::lookup;
+use plain::nonce_check;
+ghost use mathlib.Core.Path.{_≡_};
+ghost use mathlib.Core.List.{[], _∷_};
+ghost use lib.ListN.{length};
+ghost use Rattle.answers.specs.Rows.{answer};
+ghost use Rattle.cba_mode.specs.Sets.{tagBytes};
+ghost use Rattle.receiver_rules.specs.Receiver.{makeRows, badPrefix, nonceRows, lengthChecks};
+ghost use Rattle.receiver.specs.Values.{windowOf, beforeOpening};
+
+// 1 and 2 of a making.
+pub fn make_checks(set: u32, key: usize) -> u32
+    ensures { λ r. ⌜ r ≡ answer (makeRows set key) ⌝ }
+{
+    let Set::Known(p) = lookup(set) else {
+        return 1;
+    };
+    key_check(p, key)
+}
+
+// 12.
+fn prefix_check(prefix: u32, nonce: &[u8]) -> u32
+    requires { ⌜ length (now nonce) ≡ 12 ⌝ }
+    ensures { λ r. ⌜ r ≡ answer (badPrefix prefix (now (nonce .entry)) ∷ []) ⌝ }
+{
+    if prefix_of(nonce) != prefix as u64 {
+        return 12;
+    }
+    0
+}
+
+// 3 and 12.
+fn nonce_checks(prefix: u32, nonce: &[u8]) -> u32
+    ensures { λ r. ⌜ r ≡ answer (nonceRows prefix (now (nonce .entry))) ⌝ }
+{
+    let refusal = nonce_check(nonce.len());
+    if refusal != 0 {
+        return refusal;
+    }
+    prefix_check(prefix, nonce)
+}
+
+// The checks of an opening after the set's and before 15.
+fn length_checks(
+    prefix: u32,
+    p: Parameters,
+    nonce: &[u8],
+    ad: usize,
+    ciphertext: usize,
+    room: usize,
+) -> u32
+    ensures { λ r. ⌜ r ≡ answer (lengthChecks (tagBytes (p .tau)) prefix (now (nonce .entry)) ad ciphertext room) ⌝ }
+{
+    let a = first_of(nonce_checks(prefix, nonce), ad_check(ad));
+    first_of(a, ciphertext_check(p, ciphertext, room))
+}
+
+// The checks of an opening after the set's and before 8, in their order.
+pub fn open_checks(
+    prefix: u32,
+    w: Window,
+    p: Parameters,
+    nonce: &[u8],
+    ad: usize,
+    ciphertext: usize,
+    room: usize,
+) -> u32
+    ensures { λ r. ⌜ r ≡ answer (beforeOpening prefix w p (now (nonce .entry)) ad ciphertext room) ⌝ }
+{
+    let refusal = length_checks(prefix, p, nonce, ad, ciphertext, room);
+    if refusal != 0 {
+        return refusal;
+    }
+    if is_repeat(w, counter_of(nonce)) {
+        return 15;
+    }
+    0
+}

@@ -1,0 +1,4 @@
+pub mod Examples
+pub mod ReceiverLaws
+pub mod Runs
+pub mod Theorems

@@ -1,0 +1,81 @@
+-- Lists of openings on a receiver.
+-- Assumes nothing.
+use mathlib.Core.Path.{_≡_, refl, sym, ap, subst, _∙_}
+use mathlib.Core.Bool.{Bool, true, false, _||_, false≢true}
+use mathlib.Core.List.{List, [], _∷_}
+use Prim.Native.Nat.{ℕ}
+use borrow.Author.Tests.{eqb-true, eqb-false, eq-eqb, ne-eqb}
+use lib.Dec.{eqb}
+use lib.ListN.{length}
+use Rattle.window_rules.specs.Window.{Window, isRepeat, recorded, recordedAll}
+use Rattle.window_rules.specs.Theorems.{isAmong, isTooLate, Holds}
+use Rattle.window_rules.proofs.WindowLaws.{or-true, one-more, all-of, none-yet}
+use Rattle.window_rules.proofs.HighestLaws.{holds-all}
+use Rattle.receiver_rules.specs.Receiver.{Receiver, Fresh, counterOf, withCounter}
+use Rattle.receiver_rules.specs.Runs.{Opening, answerOn, after, run, accepted, NoneTwice}
+use Rattle.receiver_rules.proofs.ReceiverLaws.{not-repeated, next-accepted, next-refused}
+
+after-accepted : (v : Receiver) (o : Opening) → answerOn v o ≡ 0 → after v o ≡ withCounter v (counterOf (o .nonce))
+unfolding answerOn after
+after-accepted v o e = next-accepted v (o .nonce) (o .ad) (o .ciphertext) (o .out) e
+
+after-refused : (v : Receiver) (o : Opening) → (answerOn v o ≡ 0 → ⊥) → after v o ≡ v
+unfolding answerOn after
+after-refused v o n = next-refused v (o .nonce) (o .ad) (o .ciphertext) (o .out) n
+
+-- A property of a receiver, the receiver after a list of openings and the counters that were accepted holds for every list, if it holds
+-- for none and one accepted opening more keeps it.
+module _ (P : Receiver → Receiver → List ℕ → Type 0) (none : (v : Receiver) → P v v [])
+    (more : (v m : Receiver) (o : Opening) (ks : List ℕ) → answerOn v o ≡ 0 → P (withCounter v (counterOf (o .nonce))) m ks → P v m (counterOf (o .nonce) ∷ ks)) where
+  pub by-openings : (os : List Opening) (v : Receiver) → P v (run v os) (accepted v os)
+  unfolding run accepted
+  by-openings [] v = none v
+  by-openings (o ∷ os) v = go (λ m. by-openings os m) (eqb (answerOn v o) 0) refl
+    where
+      go : ((m : Receiver) → P m (run m os) (accepted m os)) → (b : Bool) → eqb (answerOn v o) 0 ≡ b → P v (run v (o ∷ os)) (accepted v (o ∷ os))
+      go rest true e =
+          let z = eqb-true (answerOn v o) 0 e in
+          rw (e, after-accepted v o z) (more v _ o _ z (rest (withCounter v (counterOf (o .nonce)))))
+      go rest false e = rw (e, after-refused v o (eqb-false (answerOn v o) 0 e)) (rest v)
+
+-- the window is that of before with these counters recorded
+pub window-after : (os : List Opening) (v : Receiver) → run v os .window ≡ recordedAll (v .window) (accepted v os)
+unfolding recordedAll
+window-after = by-openings (λ v m ks. m .window ≡ recordedAll (v .window) ks) (λ v. refl) (λ v m o ks e h. h)
+
+-- a counter that is recorded is a repeat then
+itself : (v : Receiver) (c : ℕ) → isRepeat (recorded (v .window) c) c ≡ true
+itself v c = one-more (v .window) c c ∙ rw (eq-eqb c c refl) (or-true (isRepeat (v .window) c))
+
+-- and a repeat stays one
+still : (v : Receiver) (k c : ℕ) → isRepeat (v .window) c ≡ true → isRepeat (recorded (v .window) k) c ≡ true
+still v k c r = one-more (v .window) k c ∙ rw r refl
+
+-- what is accepted is another counter than a repeat
+another : (v : Receiver) (o : Opening) (c : ℕ) → answerOn v o ≡ 0 → isRepeat (v .window) c ≡ true → eqb c (counterOf (o .nonce)) ≡ false
+unfolding answerOn
+another v o c e r =
+    ne-eqb c (counterOf (o .nonce)) (λ z. false≢true (sym (not-repeated v (o .nonce) (o .ad) (o .ciphertext) (length (o .out)) e) ∙ ap (isRepeat (v .window)) (sym z) ∙ r))
+
+-- none of these counters was a repeat before, and none is there twice
+once-each : (os : List Opening) (v : Receiver) → NoneTwice (accepted v os) × ((c : ℕ) → isRepeat (v .window) c ≡ true → isAmong c (accepted v os) ≡ false)
+unfolding isAmong
+once-each =
+    by-openings
+    (λ v m ks. NoneTwice ks × ((c : ℕ) → isRepeat (v .window) c ≡ true → isAmong c ks ≡ false))
+    (λ v. (tt, λ c h. refl))
+    (λ v m o ks e h. ((h .1 (counterOf (o .nonce)) (itself v (counterOf (o .nonce))), h .0), λ c r. rw (another v o c e r) (h .1 c (still v (counterOf (o .nonce)) c r))))
+
+pub accepted-once : (v : Receiver) (os : List Opening) → NoneTwice (accepted v os)
+accepted-once v os = once-each os v .0
+
+pub repeats-after : (v : Receiver) (os : List Opening) (c : ℕ) →
+    isRepeat (run v os .window) c ≡ isRepeat (v .window) c || (isAmong c (accepted v os) || isTooLate c (accepted v os))
+repeats-after v os c = ap (λ (w : Window). isRepeat w c) (window-after os v) ∙ all-of (v .window) (accepted v os) c
+
+pub repeats-fresh : (v : Receiver) (os : List Opening) (c : ℕ) → Fresh v →
+    isRepeat (run v os .window) c ≡ isAmong c (accepted v os) || isTooLate c (accepted v os)
+repeats-fresh v os c f = repeats-after v os c ∙ rw (none-yet (v .window) c f) refl
+
+pub holds-accepted : (v : Receiver) (os : List Opening) (k : ℕ) (ks : List ℕ) → Fresh v → accepted v os ≡ k ∷ ks → Holds (run v os .window) (k ∷ ks)
+holds-accepted v os k ks f e = subst (λ (w : Window). Holds w (k ∷ ks)) (sym (window-after os v ∙ ap (recordedAll (v .window)) e)) (holds-all (v .window) k ks f)

@@ -1,0 +1,3 @@
+pub mod Receiver
+pub mod Runs
+pub mod Examples
