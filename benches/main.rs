@@ -4,6 +4,8 @@
 //!     bench hardware PLAN                                the second process of `time`
 //!     bench calls CANDIDATE ACT SET SIZE DATA COUNT      so many calls, for valgrind to count
 //!     bench script KIND SET DATA accepted|refused COUNT  the same as records for crates/ledger_script
+//!     bench openings KIND SET SIZE DATA accepted|refused COUNT
+//!                                                        the same for crates/receiver_script
 //!     bench marks MAKER BITS SIZE COUNT                  so many marks, for valgrind to count
 
 #[path = "../tests/shared/random.rs"]
@@ -84,14 +86,24 @@ fn marks([maker, bits, size, count]: [&str; 4]) -> Option<()> {
     Some(())
 }
 
+fn accepted(answer: &str) -> Option<bool> {
+    match answer {
+        "accepted" => Some(true),
+        "refused" => Some(false),
+        _ => None,
+    }
+}
+
 fn script([kind, number, data, answer, count]: [&str; 5]) -> Option<()> {
-    let accepted = match answer {
-        "accepted" => true,
-        "refused" => false,
-        _ => return None,
-    };
     let (data, count) = (data.parse().ok()?, count.parse().ok()?);
-    let records = script::script(kind, set(number)?, data, accepted, count)?;
+    let records = script::script(kind, set(number)?, data, accepted(answer)?, count)?;
+    std::io::stdout().write_all(&records).ok()
+}
+
+fn openings([kind, number, size, data, answer, count]: [&str; 6]) -> Option<()> {
+    let lengths = [size.parse().ok()?, data.parse().ok()?];
+    let count = count.parse().ok()?;
+    let records = script::openings(kind, set(number)?, lengths, accepted(answer)?, count)?;
     std::io::stdout().write_all(&records).ok()
 }
 
@@ -104,6 +116,7 @@ fn main() {
         ["calls", a, b, c, d, e, f] => calls([a, b, c, d, e, f]),
         ["marks", a, b, c, d] => marks([a, b, c, d]),
         ["script", a, b, c, d, e] => script([a, b, c, d, e]),
+        ["openings", a, b, c, d, e, f] => openings([a, b, c, d, e, f]),
         _ => None,
     };
     if done.is_none() {

@@ -1,17 +1,21 @@
-//! Scripts for crates/ledger_script, whose records are described there: one ledger, data kept under the name 0, and calls
-//! of one kind, all accepted or all refused by one of the first checks. A refused call is given the same strings and
-//! prints much the same line, so that what a script of accepted ones takes beyond it is the work of the calls.
+//! Scripts for crates/ledger_script and crates/receiver_script, whose records are described there: a ledger with data
+//! kept under the name 0, or a receiver, and calls of one kind, all accepted or all refused by one of the first checks.
+//! A refused call is given the same strings and prints much the same line, so that what a script of accepted ones takes
+//! beyond it is the work of the calls. Openings are refused by their set, so that all other checks are counted.
 
+use crate::candidates::Inputs;
 use crate::cases::{Set, NONCE};
+use crate::us;
 
 const MESSAGE: usize = 32;
+const SEED: u8 = 1; // of an opening's data
 
 fn three(n: usize) -> [u8; 3] {
     let [_, bytes @ ..] = (n as u32).to_be_bytes();
     bytes
 }
 
-/// A nonce of console 0, or one byte less of it, which is refused with 3.
+/// A nonce that begins with zeros, or one byte less of it, which a ledger refuses with 3.
 fn nonce(n: u8, accepted: bool) -> Vec<u8> {
     let mut nonce = vec![0; NONCE];
     nonce[NONCE - 1] = n;
@@ -58,4 +62,58 @@ pub fn script(kind: &str, set: Set, data: usize, accepted: bool, count: u8) -> O
     };
     let calls: Option<Vec<_>> = (1..=count).map(call).collect();
     Some([make(set), keep(0, data), calls?.concat()].concat())
+}
+
+/// A receiver, or, where no set has the number, none, on which every opening is refused with 1.
+fn make_receiver(number: u32, set: Set) -> Vec<u8> {
+    let key = vec![7; set.key];
+    record(&[
+        &[0],
+        &number.to_be_bytes(),
+        &[0, 0, 0, 0, set.key as u8],
+        &key,
+    ])
+}
+
+/// A sealed message.
+fn sealed(set: Set, size: usize, data: usize, n: u8) -> Vec<u8> {
+    let inputs = Inputs {
+        set,
+        key: vec![7; set.key],
+        nonce: nonce(n, true),
+        data: (0..data).map(|i| SEED + (i % 251) as u8).collect(),
+    };
+    let mut text = vec![0; size + set.tag];
+    assert!(us::seal(&inputs, &vec![n; size], &mut text), "no sealing");
+    text
+}
+
+/// A making, then openings or plain openings of messages that are sealed under the counters 1, 2, and so on. Plain
+/// opening is told how many bytes the key has.
+pub fn openings(
+    kind: &str,
+    set: Set,
+    [size, data]: [usize; 2],
+    accepted: bool,
+    count: u8,
+) -> Option<Vec<u8>> {
+    let kind = match kind {
+        "open" => 2,
+        "plain" => 4,
+        _ => return None,
+    };
+    let lengths = [data, size + set.tag, size].map(three).concat();
+    let call = |n| {
+        let nonce = nonce(n, true);
+        let head = [
+            &[kind, nonce.len() as u8],
+            &lengths[..],
+            &[SEED, set.key as u8],
+            &nonce,
+        ];
+        [record(&head), sealed(set, size, data, n)].concat()
+    };
+    let calls: Vec<_> = (1..=count).map(call).collect();
+    let number = if accepted { set.number } else { 0 };
+    Some([make_receiver(number, set), calls.concat()].concat())
 }

@@ -53,6 +53,9 @@ extern "C" {
    the ledgers of a key have different numbers, and that their totals together stay at 2 to the
    capacity, is the hub's to see to.
 
+   A ciphertext that is opened again opens again. These calls do not notice that; a receiver does
+   (crates/receiver, for callers in Rattle).
+
    A mark tells that somebody with the key marked this log, and nothing more. It hides nothing of
    the log, and does not tell who marked it: whoever can check a mark can make one. A log that is
    sent again passes again: a mark shows no repeat. SP 800-38B advises marks of 8 bytes or more
@@ -86,7 +89,7 @@ enum cba_answer {
 };
 
 /* Numbers that no call here answers: 9, stale, 10, spent, 12, console, and 13, name, are a
-   ledger's; 11, line, is the hub program's. */
+   ledger's; 12 and 15, repeat, are a receiver's; 11, line, is the hub program's. */
 
 /* The bytes of stack that are enough for a call with so many bytes of data, and for any call: 96
    KiB. The data are walked by a recursion, a call for each 16 bytes. Marks have no data:

@@ -16,6 +16,11 @@ same_data_records() { # FILE
     held_to "$1" "$1" data_records
 }
 
+# By the records of crates/receiver_script/stdin, of which openings have a ciphertext after their 64 bytes.
+same_openings() { # FILE
+    held_to "$1" "$1" opening_records
+}
+
 # By the rows of the table `rows` in a file of proofs; standard input has them as `reference toy` prints them.
 same_rows() { # FILE
     local rows status=0
@@ -69,5 +74,17 @@ data_records() {
         n == 3 { high = $1 }
         n == 4 { all = 4 + key + 256 * high + $1 }
         n >= 4 && n == all { print line; line = ""; n = 0 }
+        END { if (line != "") print line " (cut short)" }'
+}
+
+# A line for each record: 64 bytes and, where the first says that it is one with a ciphertext, as many more as bytes 5
+# to 7 say.
+opening_records() {
+    od -An -v -tu1 -w1 | awk '
+        { line = line sprintf("%02x", $1); n++ }
+        n == 1 { more = $1 == 2 || $1 == 4; text = 0; all = 64 }
+        n >= 6 && n <= 8 { text = 256 * text + $1 }
+        n == 8 && more { all += text }
+        n == all { print line; line = ""; n = 0 }
         END { if (line != "") print line " (cut short)" }'
 }

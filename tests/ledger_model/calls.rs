@@ -3,10 +3,10 @@
 use super::headings::{Heading, NAMES};
 use super::model::{capacity, Ledger};
 use super::model_calls::{ByName, Call, Keeping, Sealing};
-use super::records::MOST_HEADER;
 use crate::shared::expected::{set, MOST_DATA, MOST_TEXT};
 use crate::shared::inputs::DATA;
 use crate::shared::random::Random;
+use crate::shared::scripts::MOST_HEADER;
 
 #[derive(Clone, Copy, PartialEq)]
 enum Kind {

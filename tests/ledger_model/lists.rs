@@ -2,11 +2,12 @@
 
 use super::model::{Ledger, NO_LEDGER};
 use super::model_calls::Call;
-use super::records::{answer, by_hand, Record};
+use super::records::{by_hand, Record};
 use super::seen::Seen;
 use super::steps::Script;
 use crate::shared::expected::set;
 use crate::shared::random::Random;
+use crate::shared::scripts::answer;
 
 /// Records, and the lines that the program must print for them.
 pub struct List {
@@ -33,6 +34,11 @@ impl List {
             lines: vec![],
             ledger: NO_LEDGER,
         }
+    }
+
+    /// To what the program's lines are held.
+    pub fn held(&self) -> (&[Record], &[String]) {
+        (&self.records, &self.lines)
     }
 
     fn add(&mut self, record: Record, seen: &mut Seen) {

@@ -1,10 +1,11 @@
 //! The key ledger of document 01, with the console number of F-2, the kept headings of F-3 and the charges of F-4.
 
 use super::headings::{plain, Heading, NAMES, NOTHING};
-use super::model_calls::{filled, Call};
+use super::model_calls::Call;
 use super::numbers::{number, start};
 use crate::shared::expected::{set, MOST_DATA, MOST_TEXT, NONCE};
 use crate::shared::mode::cba::SETS;
+use crate::shared::scripts::filled;
 
 #[derive(Clone, Debug, PartialEq)]
 pub struct Ledger {

@@ -1,5 +1,7 @@
 //! The calls on a ledger, and what an accepted one is charged.
 
+use crate::shared::scripts::{filled, OUT_SEED};
+
 /// A sealing: whether the ledger is lent to it, by which only the line's first word differs; the nonce, the lengths
 /// of data, text and output, and the seeds of data and text.
 #[derive(Clone, Debug)]
@@ -78,13 +80,4 @@ impl Call {
             Call::Keep(_) | Call::Carry => vec![],
         }
     }
-}
-
-pub const OUT_SEED: u8 = 165;
-
-/// The string of a length that a seed stands for.
-pub fn filled(length: usize, seed: u8) -> Vec<u8> {
-    (0..length)
-        .map(|i| (seed as usize + i % 251) as u8)
-        .collect()
 }

@@ -2,10 +2,11 @@
 //! with the data that the program last accepted for keeping under that name on that ledger.
 
 use super::headings::Heading;
-use super::model_calls::{filled, ByName, Call, OUT_SEED};
-use super::records::{answer, shown, Record};
+use super::model_calls::{ByName, Call};
+use super::records::Record;
 use crate::shared::expected::{set, SEAL};
 use crate::shared::mode::bytes::from_hex;
+use crate::shared::scripts::{answer, filled, shown, OUT_SEED};
 use std::collections::BTreeMap;
 
 const SHOWN: usize = 5; // differences that are printed

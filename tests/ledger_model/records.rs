@@ -4,11 +4,7 @@ use super::headings::{Heading, NAMES, NOTHING};
 use super::model::{make, Ledger};
 use super::model_calls::Call;
 use crate::shared::mode::bytes::to_hex;
-
-const LONG: usize = 64; // a longer output is shown by its residue
-const MODULUS: u128 = (1 << 56) - 5;
-const MOST_OUT: usize = 66_000; // what the program's buffers hold, of text and of output
-pub const MOST_HEADER: usize = 8_192;
+use crate::shared::scripts::{length, shown, MOST_HEADER, MOST_OUT};
 
 #[derive(Clone, Debug)]
 pub enum Record {
@@ -16,22 +12,6 @@ pub enum Record {
     Put(Ledger),             // with nothing kept
     Hold(u8, Heading),       // a name, and what the ledger has there
     Call(Call),
-}
-
-/// What a line has for an answer, which is - where the record makes a ledger by hand.
-pub fn answer(line: &str) -> &str {
-    line.split(' ').nth(1).unwrap_or("-")
-}
-
-/// As lines show an output.
-pub fn shown(out: &[u8]) -> String {
-    if out.len() <= LONG {
-        return to_hex(out);
-    }
-    let residue = out
-        .iter()
-        .fold(0, |n, &byte| (n << 8 | byte as u128) % MODULUS);
-    format!("{} {residue:014x}", out.len())
 }
 
 /// The records that make a ledger by hand: a put, and a hold for each name that has something. The program is given the
@@ -43,13 +23,6 @@ pub fn by_hand(ledger: &Ledger) -> Vec<Record> {
         .into_iter()
         .chain(holds)
         .collect()
-}
-
-/// A length in three bytes.
-fn length(n: usize, most: usize) -> [u8; 3] {
-    assert!(n <= most, "too long");
-    let [_, three @ ..] = (n as u32).to_be_bytes();
-    three
 }
 
 fn call_bytes(call: &Call) -> Vec<u8> {

@@ -10,7 +10,8 @@ use super::script_heartbeats::heartbeats;
 use super::script_keepings::keepings;
 use super::script_order::order;
 use super::script_sums::sums;
-use super::steps::{Script, KEYS_AND_TAGS};
+use super::steps::Script;
+use crate::shared::scripts::KEYS_AND_TAGS;
 
 pub fn script() -> Script {
     let mut s = Script::new();

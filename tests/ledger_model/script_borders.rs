@@ -1,7 +1,8 @@
 //! The part of the script that is about what just fits and what does not, on older and newer ledgers of each set, by
 //! hand from F-4.
 
-use super::steps::{Script, KEYS_AND_TAGS};
+use super::steps::Script;
+use crate::shared::scripts::KEYS_AND_TAGS;
 
 const EXPONENTS: [u32; 10] = [16, 32, 16, 32, 48, 16, 32, 48, 32, 48]; // b of each set
 

@@ -1,7 +1,8 @@
 //! The part of the script that is about what is kept under which name, by hand from F-3. Set 3 has tags of 8 bytes.
 
 use super::model::Ledger;
-use super::steps::{Script, KEYS_AND_TAGS};
+use super::steps::Script;
+use crate::shared::scripts::KEYS_AND_TAGS;
 
 const ABOVE: [u32; 10] = [8, 9, 15, 16, 255, 256, 263, 65536, 1 << 31, u32::MAX];
 

@@ -1,7 +1,8 @@
 //! The part of the script that is about what empty calls are charged, by hand from F-4: nothing on an older ledger, a
 //! block on a newer one. Set 3 has tags of 8 bytes.
 
-use super::steps::{Script, KEYS_AND_TAGS};
+use super::steps::Script;
+use crate::shared::scripts::KEYS_AND_TAGS;
 
 pub fn heartbeats(s: &mut Script) {
     s.console = 258;

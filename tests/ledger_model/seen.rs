@@ -7,7 +7,8 @@ use super::records::Record;
 use super::script_order::{KEEP, NAME, SEAL};
 use super::seen_headings::Headings;
 use super::seen_heartbeats::Heartbeats;
-use std::collections::{BTreeMap, BTreeSet};
+use crate::shared::scripts::Answers;
+use std::collections::BTreeSet;
 
 /// The refusals of a sealing, a keeping and a sealing by name, in their order.
 const CHECKS: [&[u32]; 3] = [&SEAL, &KEEP, &NAME];
@@ -21,9 +22,6 @@ pub fn kind(call: &Call) -> Option<usize> {
         Call::Carry => None,
     }
 }
-
-/// How often each answer was given.
-pub type Answers = BTreeMap<u32, usize>;
 
 /// What was seen of the calls of one kind.
 #[derive(Default)]

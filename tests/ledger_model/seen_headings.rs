@@ -2,8 +2,9 @@
 
 use super::headings::{Heading, NAMES, NOTHING};
 use super::model::Ledger;
-use super::model_calls::{filled, Call, Keeping};
+use super::model_calls::{Call, Keeping};
 use super::records::Record;
+use crate::shared::scripts::filled;
 use std::collections::BTreeMap;
 
 const MANY: usize = 10;

@@ -1,15 +1,11 @@
 //! What is printed of the random lists.
 
-use super::seen::{Answers, Calls, Seen};
+use super::seen::{Calls, Seen};
 use super::seen_headings::Headings;
 use super::seen_heartbeats::Heartbeats;
+use crate::shared::scripts::by_answer;
 
 const CHARGES: [&str; 2] = ["older", "newer"];
-
-fn by_answer(counts: &Answers) -> String {
-    let answers = counts.iter().map(|(a, n)| format!("answer {a}: {n}"));
-    answers.collect::<Vec<_>>().join(", ")
-}
 
 pub fn show(seen: &Seen) {
     println!(

@@ -2,23 +2,10 @@
 
 use super::headings::{Heading, Sum, NAMES, NOTHING};
 use super::model::{Ledger, NO_LEDGER};
-use super::model_calls::{filled, ByName, Call, Keeping, Sealing};
+use super::model_calls::{ByName, Call, Keeping, Sealing};
 use super::numbers::{nonce, nonce_on, MOST_NONCE};
-use super::records::{answer, by_hand, Record};
-
-/// The lengths of key and tag of each set, from set 1 on.
-pub const KEYS_AND_TAGS: [(usize, usize); 10] = [
-    (16, 4),
-    (16, 4),
-    (16, 8),
-    (16, 8),
-    (16, 8),
-    (16, 12),
-    (16, 12),
-    (16, 12),
-    (24, 8),
-    (32, 12),
-];
+use super::records::{by_hand, Record};
+use crate::shared::scripts::{answer, filled, key, KEYS_AND_TAGS};
 
 pub struct Script {
     pub records: Vec<Record>,
@@ -27,11 +14,6 @@ pub struct Script {
     pub console: u16, // of the makings and hand-made ledgers, and what nonces begin with
     pub heartbeats: bool, // of fresh and hand-made ledgers
     pub lent: &'static [bool], // whether a sealing's ledger is lent, in turn
-}
-
-/// A key of 32 bytes that are all different, and none 0.
-fn key() -> [u8; 32] {
-    std::array::from_fn(|i| 0x11 + i as u8)
 }
 
 impl Script {

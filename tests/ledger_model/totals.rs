@@ -4,8 +4,9 @@
 
 use super::model::{capacity, make, Ledger};
 use super::model_calls::Call;
-use super::records::{answer, Record};
+use super::records::Record;
 use crate::shared::expected::set;
+use crate::shared::scripts::answer;
 
 const SHOWN: usize = 5; // differences that are printed
 const MANY: usize = 50;

@@ -1,5 +1,5 @@
-//! What the programs share that calls no library: the mode and CMAC written a second time, the tables of answers, and
-//! inputs.
+//! What the programs share that calls no library: the mode and CMAC written a second time, the tables of answers,
+//! inputs, and what runs a program on a script and reads its lines.
 
 #![allow(dead_code)] // no program uses all of it
 
@@ -11,5 +11,7 @@ pub mod marks;
 #[path = "../reference/mode/mod.rs"]
 #[allow(unused_imports)]
 pub mod mode;
+pub mod programs;
 pub mod random;
+pub mod scripts;
 pub mod seed;

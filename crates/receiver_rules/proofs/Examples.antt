@@ -9,7 +9,7 @@ use Rattle.answers.specs.Table.{table, numbersOf}
 use Rattle.cba_mode.specs.Sets.{isSet, column}
 use Rattle.window_rules.specs.Window.{bit, isRepeat}
 use Rattle.receiver_rules.specs.Receiver.{noReceiver, makeRows, prefixOf, counterOf, receiverRows}
-use Rattle.receiver_rules.specs.Examples.{makings, makesSo, openings, falseOnes, opensSo}
+use Rattle.receiver_rules.specs.Examples.{makings, makesSo, Parts, openings, falseOnes, opensSo}
 
 -- every number of the rows is in the table of all answers
 pub in-the-table : (allIn (numbers (makeRows 0 0)) (numbersOf table) ≡ true) × (allIn (numbers (receiverRows noReceiver [] 0 0 0 true)) (numbersOf table) ≡ true)
@@ -19,6 +19,10 @@ in-the-table = (refl, refl)
 pub making-examples : makesSo makings ≡ true
 unfolding makesSo answer makeRows isSet column
 making-examples = refl
+
+pub parts : Parts
+unfolding prefixOf counterOf number
+parts = record { prefix-is = refl; counter-is = refl }
 
 pub opening-examples : (opensSo false openings ≡ true) × (opensSo true falseOnes ≡ true)
 unfolding opensSo answer receiverRows prefixOf counterOf isRepeat bit isSet column number digits

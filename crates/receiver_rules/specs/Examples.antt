@@ -1,13 +1,14 @@
 -- Example calls on a receiver: one fault each, then each with all that follow it, and the answer.
 -- Assumes nothing.
-use mathlib.Core.Bool.{Bool, true, false, _&&_}
+use mathlib.Core.Path.{_≡_}
+use mathlib.Core.Bool.{Bool, true, _&&_}
 use mathlib.Core.List.{List, [], _∷_, _++_}
-use Prim.Native.Nat.{ℕ, _-_}
+use Prim.Native.Nat.{ℕ}
 use lib.Dec.{eqb}
 use lib.ListN.{getD, take, replicate}
 use Rattle.octets.specs.Numbers.{digits}
 use Rattle.answers.specs.Rows.{answer}
-use Rattle.receiver_rules.specs.Receiver.{Receiver, makeRows, receiverRows}
+use Rattle.receiver_rules.specs.Receiver.{Receiver, makeRows, prefixOf, counterOf, receiverRows}
 
 -- the answer, then set and key
 abbrev pub makings : List (List ℕ)
@@ -16,6 +17,11 @@ makings = (0 ∷ 1 ∷ 16 ∷ []) ∷ (0 ∷ 9 ∷ 24 ∷ []) ∷ (0 ∷ 10 ∷ 
 unfoldable pub makesSo : List (List ℕ) → Bool
 makesSo [] = true
 makesSo (c ∷ cs) = eqb (answer (makeRows (getD c 1 0) (getD c 2 0))) (getD c 0 0) && makesSo cs
+
+-- the number that a nonce begins with, and its counter
+pub record Parts : Type 0 where
+  pub prefix-is : prefixOf (1 ∷ 2 ∷ 3 ∷ 4 ∷ 5 ∷ 6 ∷ 7 ∷ 8 ∷ 9 ∷ 10 ∷ 11 ∷ 12 ∷ []) ≡ 0x01020304
+  pub counter-is : counterOf (1 ∷ 2 ∷ 3 ∷ 4 ∷ 5 ∷ 6 ∷ 7 ∷ 8 ∷ 9 ∷ 10 ∷ 11 ∷ 12 ∷ []) ≡ 0x05060708090a0b0c
 
 -- a receiver of a set and the prefix 0x01020304 that has accepted 1000 alone
 abbrev at : ℕ → Receiver

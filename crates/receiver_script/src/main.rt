@@ -11,6 +11,7 @@
 //          seed in byte 12
 //   plain: byte 0 is 4; as for open, but it is plain opening under the receiver's set and the first
 //          bytes of its key, as many as byte 12 says; the receiver stays as it is
+// Any other first byte is taken for 2.
 //
 // Data and what the output holds before a call are made from their seeds by `script::fill`; the output's
 // seed is 165. The files stdin and stdout beside src/ are what tests/receiver_model writes, the receiver

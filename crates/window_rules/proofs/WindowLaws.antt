@@ -58,11 +58,15 @@ module _ (k c : ℕ) where
   new-far : c + 64 ≤ k → new ≡ true
   new-far p = rw (le-leb (c + 64) k p) (or-true (eqb c k))
 
+  -- its own mark, j below h
+  its-mark : (h j : ℕ) → k + j ≡ h → c ≤ h → k < c + 64 → bit (2 ^ j) (h - c) ≡ new
+  its-mark h j e p q = bit-power (h - c) j ∙ same-test (h - c) j c k (λ f. omega arith) (λ f. omega arith) ∙ sym (new-near q)
+
   after-first : within k 1 c ≡ new
   after-first =
       by-place k 1 c
       (λ p. within-above k 1 c p ∙ sym (new-above p))
-      (λ p q. within-near k 1 c p q ∙ bit-power (k - c) 0 ∙ same-test (k - c) 0 c k (λ e. omega arith) (λ e. omega arith) ∙ sym (new-near (omega arith)))
+      (λ p q. within-near k 1 c p q ∙ its-mark k 0 (omega arith) p (omega arith))
       (λ p q. within-far k 1 c p q ∙ sym (new-far (omega arith)))
 
   module _ (h m : ℕ) where
@@ -87,8 +91,7 @@ module _ (k c : ℕ) where
         (λ p q.
         within-near k up c p q
         ∙ bit-or (m * 2 ^ (k - h) % 2 ^ 64) 1 (k - c)
-        ∙ ap₂ _||_ (bit-cut (m * 2 ^ (k - h)) (k - c) q ∙ mark-moved g p q)
-        (bit-power (k - c) 0 ∙ same-test (k - c) 0 c k (λ e. omega arith) (λ e. omega arith) ∙ sym (new-near (omega arith))))
+        ∙ ap₂ _||_ (bit-cut (m * 2 ^ (k - h)) (k - c) q ∙ mark-moved g p q) (its-mark k 0 (omega arith) p (omega arith)))
         (λ p q. within-far k up c p q ∙ sym (ap (_||_ (within h m c)) (new-far (omega arith)) ∙ or-true (within h m c)))
 
     after-marked : k ≤ h → within h (bitOr m (2 ^ (h - k))) c ≡ within h m c || new
@@ -98,11 +101,14 @@ module _ (k c : ℕ) where
         (λ p q.
         within-near h _ c p q
         ∙ bit-or m (2 ^ (h - k)) (h - c)
-        ∙ ap₂ _||_ (sym (within-near h m c p q))
-        (bit-power (h - c) (h - k) ∙ same-test (h - c) (h - k) c k (λ e. omega arith) (λ e. omega arith) ∙ sym (new-near (omega arith))))
+        ∙ ap₂ _||_ (sym (within-near h m c p q)) (its-mark h (h - k) (omega arith) p (omega arith)))
         (λ p q. within-far h _ c p q ∙ sym (ap (λ (x : Bool). x || new) (within-far h m c p q)))
 
 -- ---- any window
+
+pub none-yet : (w : Window) (c : ℕ) → w .begun ≡ false → isRepeat w c ≡ false
+unfolding isRepeat
+none-yet w c e = rw e refl
 
 -- one that has begun
 pub repeat-begun : (w : Window) (c : ℕ) → w .begun ≡ true → isRepeat w c ≡ within (w .highest) (w .marks) c
@@ -139,7 +145,3 @@ all-of w (k ∷ ks) c =
     regroup false true l a f = refl
     regroup false false true a f = sym (or-true a)
     regroup false false false a f = refl
-
-pub none-yet : (w : Window) (c : ℕ) → w .begun ≡ false → isRepeat w c ≡ false
-unfolding isRepeat
-none-yet w c e = rw e refl

@@ -72,4 +72,4 @@ firstsSo [] = true
 firstsSo (c ∷ cs) =
     let w = at false (getD c 0 0) (getD c 1 0) in
     let k = getD c 2 0 in
-    said (isRepeat w k) 0 && eqb (recorded w k .highest) k && eqb (recorded w k .marks) 1 && firstsSo cs
+    said (isRepeat w k) 0 && said (recorded w k .begun) 1 && eqb (recorded w k .highest) k && eqb (recorded w k .marks) 1 && firstsSo cs

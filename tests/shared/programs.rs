@@ -1,0 +1,42 @@
+//! A program that prints a line for each record: a run of it, and its lines held to those that are expected.
+
+use std::fmt::Debug;
+use std::io::Write;
+use std::process::{Command, Stdio};
+
+const SHOWN: usize = 5; // differences that are printed
+
+/// What the program writes for the records, and whether it ended well.
+pub fn output(program: &str, records: Vec<u8>) -> Result<(String, bool), String> {
+    let mut child = Command::new(program)
+        .stdin(Stdio::piped())
+        .stdout(Stdio::piped())
+        .spawn()
+        .map_err(|e| format!("{program}: {e}"))?;
+    let mut stdin = child.stdin.take().expect("a pipe");
+    let writer = std::thread::spawn(move || stdin.write_all(&records));
+    let done = child.wait_with_output().map_err(|e| e.to_string())?;
+    // A program that stops early does not read all, and leaves lines out, which is a difference.
+    let _ = writer.join().expect("a writer");
+    let text = String::from_utf8_lossy(&done.stdout).into_owned();
+    Ok((text, done.status.success()))
+}
+
+/// Compares the lines of lists, each of records and their lines. It prints the first that differ with their calls, and
+/// counts the differences.
+pub fn differences<R: Debug>(lists: &[(&[R], &[String])], found: &str) -> usize {
+    let mut found_lines = found.lines();
+    let mut count = 0;
+    for (n, (records, lines)) in lists.iter().enumerate() {
+        for (i, line) in lines.iter().enumerate() {
+            let found = found_lines.next().unwrap_or("nothing");
+            count += (found != line) as usize;
+            if found != line && count <= SHOWN {
+                let before = if i == 0 { "-" } else { &lines[i - 1] };
+                eprintln!("list {}, call {}: {:?}", n + 1, i + 1, records[i]);
+                eprintln!("  before   {before}\n  expected {line}\n  found    {found}");
+            }
+        }
+    }
+    count + found_lines.count()
+}
