@@ -1,18 +1,18 @@
 -- A making and an opening on a receiver: the checks in their groups, and the call.
 -- Assumes nothing.
-use mathlib.Core.Path.{_≡_, refl, sym, ap, ap₂, subst, _∙_}
-use mathlib.Core.Bool.{Bool, true, false, cond, not}
+use mathlib.Core.Path.{_≡_, refl, sym, ap, subst, _∙_}
+use mathlib.Core.Bool.{Bool, true, false, not}
 use mathlib.Core.List.{List, [], _∷_, _++_}
 use Prim.Native.Nat.{ℕ, _-_, _/_, _≤_}
 use native.Mathlib.Omega.{arith}
 use borrow.Author.Tests.{ne-eqb}
 use lib.Dec.{T}
 use lib.ListN.{length, take}
-use Rattle.answers.specs.Rows.{Row, answer, firstOf, numbers, isIn, ownNumbers}
-use Rattle.answers.proofs.RowLaws.{not-false, refuses, accepts, passed, listed, two-parts, first-stops, first-goes, stops, goes-on}
+use Rattle.answers.specs.Rows.{Row, answer, numbers, isIn, ownNumbers}
+use Rattle.answers.proofs.RowLaws.{not-false, refuses, accepts, passed, listed, stops, goes-on}
 use Rattle.cba_mode.specs.Sets.{isSet, keyBytes, tagBytes}
 use Rattle.cba_mode.specs.Open.{isFalse}
-use Rattle.cba_rules.specs.Checks.{setTag, badKey, forged}
+use Rattle.cba_rules.specs.Checks.{badKey, forged}
 use Rattle.cba_rules.specs.Refusals.{opening, OpenCall}
 use Rattle.cba_rules.proofs.SetLaws.{key-most}
 use Rattle.cba_rules.proofs.RefusalLaws.{is-length, has-length}
@@ -21,7 +21,7 @@ use Rattle.plain.specs.declared.sets.Set.the-variants.{Known, Unknown}
 use Rattle.plain.specs.Lookup.{lookupOf}
 use Rattle.plain.proofs.SetLaws.{is-known, is-unknown, its-key, its-tag}
 use Rattle.window_rules.specs.Window.{isRepeat}
-use Rattle.receiver_rules.specs.Receiver.{Receiver, makeRows, makeAnswer, keyOf, prefixOf, counterOf, badPrefix, repeated, lengthChecks, receiverRows, receiverAnswer, withCounter, receiverOutput, ReceiverCall}
+use Rattle.receiver_rules.specs.Receiver.{Receiver, makeRows, keyOf, prefixOf, counterOf, badPrefix, repeated, lengthChecks, receiverRows, receiverAnswer, withCounter, receiverOutput, ReceiverCall}
 use Rattle.receiver_rules.proofs.ReceiverLaws.{call-refused, next-refused, next-accepted, plain-call}
 
 -- ---- making
@@ -58,34 +58,10 @@ module _ (t prefix : ℕ) (N : List ℕ) (ad ciphertext room : ℕ) where
   unfolding numbers isIn ownNumbers
   lengths-nonce z = is-length (length N) 12 (passed lengths refl z .0)
 
-  module _ (again : Bool) where
-    -- before 8
-    abbrev checks : List Row
-    checks = lengths ++ (repeated again ∷ [])
-
-    -- where none of them refuses, the nonce is whole and its counter no repeat
-    checks-passed : answer checks ≡ 0 → (length N ≡ 12) × (again ≡ false)
-    unfolding numbers isIn ownNumbers
-    checks-passed z = let p = passed checks refl z in (is-length (length N) 12 (p .0), p .1 .1 .1 .1 .1 .1 .0)
-
-    -- 15, after the lengths
-    module _ {r : ℕ} (e : r ≡ answer lengths) where
-      pub lengths-refused : (r ≡ 0 → ⊥) → r ≡ answer checks
-      unfolding numbers isIn ownNumbers
-      lengths-refused n = stops lengths (repeated again ∷ []) refl e n
-
-      pub repeat-refused : r ≡ 0 → again ≡ true → 15 ≡ answer checks
-      unfolding numbers isIn ownNumbers
-      repeat-refused z h = goes-on lengths (repeated again ∷ []) refl e z (sym (refuses [] (repeated again) [] tt h))
-
-      pub repeat-passed : r ≡ 0 → again ≡ false → 0 ≡ answer checks
-      unfolding numbers isIn ownNumbers
-      repeat-passed z h = goes-on lengths (repeated again ∷ []) refl e z (sym (accepts (repeated again ∷ []) (h, tt)))
-
-    -- none of them answers 8
-    checks-eight : answer checks ≡ 8 → ⊥
-    unfolding numbers isIn
-    checks-eight e = subst T (sym (ap (λ (n : ℕ). isIn n (0 ∷ numbers checks)) (sym e) ∙ listed checks)) tt
+  -- none of them answers 8
+  lengths-eight : answer lengths ≡ 8 → ⊥
+  unfolding numbers isIn
+  lengths-eight e = subst T (sym (ap (λ (n : ℕ). isIn n (0 ∷ numbers lengths)) (sym e) ∙ listed lengths)) tt
 
 -- ---- an opening
 
@@ -97,50 +73,56 @@ module _ (v : Receiver) (p : Parameters) (known : lookupOf (v .set) ≡ Known p)
   abbrev its-answer : ℕ
   its-answer = receiverAnswer v N A C (length out)
 
-  -- the checks before 8, by a tag of t bytes
-  abbrev by-tag : ℕ → List Row
-  by-tag t = checks t (v .prefix) N (length A) (length C) (length out) (isRepeat (v .window) (counterOf N))
+  abbrev its-lengths : ℕ → List Row
+  its-lengths t = lengths t (v .prefix) N (length A) (length C) (length out)
 
-  -- on a set, those and then 8
-  in-parts : its-answer ≡ firstOf (answer (by-tag (tagBytes (p .tau)))) (cond (isFalse (opening (v .set) (keyOf v) N A C)) 8 0)
-  unfolding receiverAnswer receiverRows answer numbers isIn ownNumbers
-  in-parts =
-      let f = forged (isFalse (opening (v .set) (keyOf v) N A C)) in
-      let e : its-answer ≡ answer (by-tag (setTag (v .set)) ++ (f ∷ [])) = rw (is-known (v .set) p known) refl in
-      e ∙ two-parts (by-tag (setTag (v .set))) (f ∷ []) refl ∙ ap (λ (t : ℕ). firstOf (answer (by-tag t)) (answer (f ∷ []))) (sym (its-tag (v .set) p known))
+  -- 15, then 8
+  abbrev last-two : List Row
+  last-two = repeated (isRepeat (v .window) (counterOf N)) ∷ forged (isFalse (opening (v .set) (keyOf v) N A C)) ∷ []
 
-  pub checks-refused : (r : ℕ) → r ≡ answer (by-tag (tagBytes (p .tau))) → (r ≡ 0 → ⊥) → ReceiverCall v N A C out r v out
-  checks-refused r e n =
-      call-refused v N A C out r (first-stops _ e n ∙ sym in-parts) n
-      (λ z. checks-eight (tagBytes (p .tau)) (v .prefix) N (length A) (length C) (length out) (isRepeat (v .window) (counterOf N)) (sym e ∙ z))
+  -- on a set, the lengths and then these
+  on-set : answer (its-lengths (tagBytes (p .tau)) ++ last-two) ≡ its-answer
+  unfolding receiverAnswer receiverRows answer
+  on-set = ap (λ (t : ℕ). answer (its-lengths t ++ last-two)) (its-tag (v .set) p known) ∙ rw (is-known (v .set) p known) refl
 
-  pub counter-new : answer (by-tag (tagBytes (p .tau))) ≡ 0 → (length N ≡ 12) × (isRepeat (v .window) (counterOf N) ≡ false)
-  counter-new = checks-passed (tagBytes (p .tau)) (v .prefix) N (length A) (length C) (length out) (isRepeat (v .window) (counterOf N))
+  module _ {r : ℕ} (e : r ≡ answer (its-lengths (tagBytes (p .tau)))) where
+    pub lengths-refused : (r ≡ 0 → ⊥) → ReceiverCall v N A C out r v out
+    unfolding numbers isIn ownNumbers
+    lengths-refused n =
+        call-refused v N A C out r (stops (its-lengths (tagBytes (p .tau))) last-two refl e n ∙ on-set) n
+        (λ z. lengths-eight (tagBytes (p .tau)) (v .prefix) N (length A) (length C) (length out) (sym e ∙ z))
 
-  -- where they pass, plain opening decides
-  module _ (k : length (v .key) ≡ 32) (z : answer (by-tag (tagBytes (p .tau))) ≡ 0) where
-    decided : its-answer ≡ cond (isFalse (opening (v .set) (keyOf v) N A C)) 8 0
-    decided = in-parts ∙ sym (first-goes _ z)
+    -- where they pass, the answer is that of the last two
+    then : r ≡ 0 → answer last-two ≡ its-answer
+    unfolding numbers isIn ownNumbers
+    then z = goes-on (its-lengths (tagBytes (p .tau))) last-two refl e z refl ∙ on-set
 
-    neither-of : (n : ℕ) → (n ≡ 8 → ⊥) → (n ≡ 0 → ⊥) → its-answer ≡ n → ⊥
-    neither-of n a b e = go (isFalse (opening (v .set) (keyOf v) N A C)) refl
-      where
-        go : (x : Bool) → isFalse (opening (v .set) (keyOf v) N A C) ≡ x → ⊥
-        go true h = a (sym e ∙ decided ∙ rw h refl)
-        go false h = b (sym e ∙ decided ∙ rw h refl)
+    pub repeat-refused : r ≡ 0 → isRepeat (v .window) (counterOf N) ≡ true → ReceiverCall v N A C out 15 v out
+    repeat-refused z h =
+        call-refused v N A C out 15 (sym (refuses [] (repeated (isRepeat (v .window) (counterOf N))) _ tt h) ∙ then z) (λ k. omega (arith, k)) (λ k. omega (arith, k))
 
-    module _ (n : ℕ) (i : n ≡ p .key / 8) (a : ℕ) (out′ : List ℕ) (call : OpenCall (v .set) (take n (v .key)) N A C out a out′) where
-      its-call : (a ≡ its-answer) × (out′ ≡ receiverOutput v N A C out)
-      unfolding keyOf
-      its-call =
-          let m = subst (λ (j : ℕ). OpenCall (v .set) (take j (v .key)) N A C out a out′) (i ∙ its-key (v .set) p known) call in
-          let c = plain-call v N A C out k (neither-of 12 (λ e. omega (arith, e)) (λ e. omega (arith, e))) (neither-of 15 (λ e. omega (arith, e)) (λ e. omega (arith, e))) in
-          (m .0 ∙ sym (c .0), m .1 ∙ sym (c .1))
+    -- and of a new counter plain opening decides
+    module _ (k : length (v .key) ≡ 32) (z : r ≡ 0) (new : isRepeat (v .window) (counterOf N) ≡ false) where
+      neither-of : (n : ℕ) → (n ≡ 8 → ⊥) → (n ≡ 0 → ⊥) → its-answer ≡ n → ⊥
+      unfolding answer
+      neither-of n a b f = go (isFalse (opening (v .set) (keyOf v) N A C)) refl
+        where
+          go : (x : Bool) → isFalse (opening (v .set) (keyOf v) N A C) ≡ x → ⊥
+          go true h = a (sym f ∙ sym (then z) ∙ rw (new, h) refl)
+          go false h = b (sym f ∙ sym (then z) ∙ rw (new, h) refl)
 
-      pub call-false : (a ≡ 0 → ⊥) → ReceiverCall v N A C out a v out′
-      call-false h = record { answer-is = its-call .0; next-is = sym (next-refused v N A C out (λ e. h (its-call .0 ∙ e))); output-is = its-call .1 }
+      module _ (n : ℕ) (i : n ≡ p .key / 8) (a : ℕ) (out′ : List ℕ) (call : OpenCall (v .set) (take n (v .key)) N A C out a out′) where
+        its-call : (a ≡ its-answer) × (out′ ≡ receiverOutput v N A C out)
+        unfolding keyOf
+        its-call =
+            let m = subst (λ (j : ℕ). OpenCall (v .set) (take j (v .key)) N A C out a out′) (i ∙ its-key (v .set) p known) call in
+            let c = plain-call v N A C out k (neither-of 12 (λ f. omega (arith, f)) (λ f. omega (arith, f))) (neither-of 15 (λ f. omega (arith, f)) (λ f. omega (arith, f))) in
+            (m .0 ∙ sym (c .0), m .1 ∙ sym (c .1))
 
-      pub call-true : (v′ : Receiver) → a ≡ 0 → v′ ≡ withCounter v (counterOf N) → ReceiverCall v N A C out 0 v′ out′
-      call-true v′ h e =
-          let y = sym h ∙ its-call .0 in
-          record { answer-is = y; next-is = e ∙ sym (next-accepted v N A C out (sym y)); output-is = its-call .1 }
+        pub call-false : (a ≡ 0 → ⊥) → ReceiverCall v N A C out a v out′
+        call-false h = record { answer-is = its-call .0; next-is = sym (next-refused v N A C out (λ f. h (its-call .0 ∙ f))); output-is = its-call .1 }
+
+        pub call-true : (v′ : Receiver) → a ≡ 0 → v′ ≡ withCounter v (counterOf N) → ReceiverCall v N A C out 0 v′ out′
+        call-true v′ h f =
+            let y = sym h ∙ its-call .0 in
+            record { answer-is = y; next-is = f ∙ sym (next-accepted v N A C out (sym y)); output-is = its-call .1 }

@@ -1,8 +1,5 @@
 // The checks of a receiver's calls, in their groups.
-use crate::nonce::counter_of;
 use crate::nonce::prefix_of;
-use crate::window::Window;
-use crate::window::is_repeat;
 use cba_steps::Parameters;
 use plain::Set;
 use plain::ad_check;
@@ -17,7 +14,6 @@ ghost use lib.ListN.{length};
 ghost use Rattle.answers.specs.Rows.{answer};
 ghost use Rattle.cba_mode.specs.Sets.{tagBytes};
 ghost use Rattle.receiver_rules.specs.Receiver.{makeRows, badPrefix, nonceRows, lengthChecks};
-ghost use Rattle.receiver.specs.Values.{windowOf, beforeOpening};
 
 // 1 and 2 of a making.
 pub fn make_checks(set: u32, key: usize) -> u32
@@ -52,7 +48,7 @@ fn nonce_checks(prefix: u32, nonce: &[u8]) -> u32
 }
 
 // The checks of an opening after the set's and before 15.
-fn length_checks(
+pub fn length_checks(
     prefix: u32,
     p: Parameters,
     nonce: &[u8],
@@ -64,26 +60,4 @@ fn length_checks(
 {
     let a = first_of(nonce_checks(prefix, nonce), ad_check(ad));
     first_of(a, ciphertext_check(p, ciphertext, room))
-}
-
-// The checks of an opening after the set's and before 8, in their order.
-pub fn open_checks(
-    prefix: u32,
-    w: Window,
-    p: Parameters,
-    nonce: &[u8],
-    ad: usize,
-    ciphertext: usize,
-    room: usize,
-) -> u32
-    ensures { λ r. ⌜ r ≡ answer (beforeOpening prefix w p (now (nonce .entry)) ad ciphertext room) ⌝ }
-{
-    let refusal = length_checks(prefix, p, nonce, ad, ciphertext, room);
-    if refusal != 0 {
-        return refusal;
-    }
-    if is_repeat(w, counter_of(nonce)) {
-        return 15;
-    }
-    0
 }

@@ -1,8 +1,9 @@
 // A receiver is a value: each call returns the next one.
+use crate::checks::length_checks;
 use crate::checks::make_checks;
-use crate::checks::open_checks;
 use crate::nonce::counter_of;
 use crate::window::Window;
+use crate::window::is_repeat;
 use crate::window::recorded;
 use cba_steps::Parameters;
 use plain::Set;
@@ -11,12 +12,9 @@ ghost use mathlib.Core.Path.{_≡_};
 ghost use mathlib.Core.Bool.{false};
 ghost use Prim.Native.Nat.{_≤_};
 ghost use lib.ListN.{length};
-ghost use Rattle.answers.specs.Rows.{answer};
-ghost use Rattle.plain.specs.declared.sets.Set.the-variants.{Known};
-ghost use Rattle.plain.specs.Lookup.{lookupOf};
 ghost use Rattle.window_rules.specs.Window.{isRepeat};
 ghost use Rattle.receiver_rules.specs.Receiver.{noReceiver, begin, makeAnswer, madeReceiver, withCounter};
-ghost use Rattle.receiver.specs.Values.{windowOf, valueOf, beforeOpening, Received};
+ghost use Rattle.receiver.specs.Values.{windowOf, valueOf, Ready, Received};
 
 // The set, the key with zeros after it up to 32 bytes, the number that its nonces begin with, four
 // bytes of them, and the window over their counters, the other eight.
@@ -100,15 +98,13 @@ fn next(v: Receiver, counter: u64) -> Receiver
 fn open_new(
     v: Receiver,
     p: Parameters,
+    counter: u64,
     nonce: &[u8],
     ad: &[u8],
     ciphertext: &[u8],
     out: &mut [u8],
 ) -> Outcome
-    requires { ⌜ lookupOf (v .set) ≡ Known p ⌝ }
-    requires { ⌜
-        answer (beforeOpening (v .prefix) (v .window) p (now nonce) (length (now ad)) (length (now ciphertext)) (length (now out))) ≡ 0
-        ⌝ }
+    requires { ⌜ Ready v p counter (now nonce) (now ad) (now ciphertext) (now out) ⌝ }
     ensures { λ r. ⌜
         Received v (now (nonce .entry)) (now (ad .entry)) (now (ciphertext .entry)) (now (out .entry)) r (now (out .exit))
         ⌝ }
@@ -124,7 +120,7 @@ fn open_new(
     }
     Outcome {
         answer: 0,
-        receiver: next(v, counter_of(nonce)),
+        receiver: next(v, counter),
     }
 }
 
@@ -144,22 +140,21 @@ impl Receiver {
                 receiver: self,
             };
         };
-        let w = self.window;
-        let refusal = open_checks(
-            self.prefix,
-            w,
-            p,
-            nonce,
-            ad.len(),
-            ciphertext.len(),
-            out.len(),
-        );
+        let refusal = length_checks(self.prefix, p, nonce, ad.len(), ciphertext.len(), out.len());
         if refusal != 0 {
             return Outcome {
                 answer: refusal,
                 receiver: self,
             };
         }
-        open_new(self, p, nonce, ad, ciphertext, out)
+        let counter = counter_of(nonce);
+        let w = self.window;
+        if is_repeat(w, counter) {
+            return Outcome {
+                answer: 15,
+                receiver: self,
+            };
+        }
+        open_new(self, p, counter, nonce, ad, ciphertext, out)
     }
 }

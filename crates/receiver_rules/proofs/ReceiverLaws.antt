@@ -1,21 +1,21 @@
 -- What a making and an opening on a receiver answer, and what they leave.
 -- Assumes nothing.
-use mathlib.Core.Path.{_≡_, refl, sym, ap, subst, _∙_}
+use mathlib.Core.Path.{_≡_, refl, sym, ap, _∙_}
 use mathlib.Core.Bool.{Bool, true, false, false≢true}
 use mathlib.Core.List.{List, [], _∷_, _++_}
-use Prim.Native.Nat.{ℕ, _-_, _≤_}
+use Prim.Native.Nat.{ℕ, _-_}
 use native.Mathlib.Omega.{arith}
 use borrow.Author.Tests.{ne-eqb}
-use lib.ListN.{length, take}
+use lib.ListN.{length}
 use lib.Seq.{length-take-le}
 use Rattle.answers.specs.Rows.{Row, answer, numbers, isIn, ownNumbers, Decides}
-use Rattle.answers.proofs.RowLaws.{not-false, decides, without}
-use Rattle.cba_mode.specs.Sets.{isSet, column, keyBytes}
+use Rattle.answers.proofs.RowLaws.{decides, without}
+use Rattle.cba_mode.specs.Sets.{isSet, keyBytes}
 use Rattle.cba_mode.specs.Open.{isFalse, messageOf}
 use Rattle.cba_rules.specs.Checks.{setTag, badSet, badKey, badNonce, longData, forged, ciphertextRows, openRows}
 use Rattle.cba_rules.specs.Refusals.{opening, openAnswer, openLeaves, openOutput, OpenCall}
 use Rattle.cba_rules.proofs.SetLaws.{key-most}
-use Rattle.cba_rules.proofs.RefusalLaws.{is-length, has-length, false-leaves, open-untouched}
+use Rattle.cba_rules.proofs.RefusalLaws.{has-length, false-leaves, open-untouched}
 use Rattle.window_rules.specs.Window.{isRepeat}
 use Rattle.window_rules.proofs.WindowLaws.{none-yet}
 use Rattle.receiver_rules.specs.Receiver.{Receiver, noReceiver, makeAnswer, begin, madeReceiver, Fresh, keyOf, prefixOf, counterOf, badPrefix, repeated, receiverRows, receiverAnswer, withCounter, nextReceiver, receiverOutput, ReceiverCall}

@@ -7,7 +7,7 @@ use Prim.Native.Nat.{ℕ, zero, suc, _+_, _-_, _*_, _/_, _%_, _^_, _<_, _≤_}
 use native.Mathlib.Nat.{one-mul, mul-assoc, div-eq-of-lt}
 use native.Mathlib.Omega.{arith}
 use borrow.Author.Tests.{eq-eqb, ne-eqb, eqb-true, eqb-false}
-use lib.Bits.{bitOr, or-zero-l, or-zero-r, or-shr, or-mod, shifted-even}
+use lib.Bits.{bitOr, or-zero-l, or-shr, or-mod, shifted-even}
 use lib.Dec.{eqb}
 use lib.Pow.{pow-add, pow-lt, shl-shr, shr-shr, field, mod-mod-pow}
 use Rattle.octets.proofs.Tests.{le-or-lt}
