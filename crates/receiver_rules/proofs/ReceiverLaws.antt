@@ -108,9 +108,13 @@ module _ (v : Receiver) (N A C out : List ℕ) where
       let e = as-plain v N A C (length out) k n12 n15 in
       (e, ap (λ (a : ℕ). openLeaves a (length C - setTag (v .set)) (messageOf (opening (v .set) (keyOf v) N A C)) out) e)
 
+  pub new-call : isRepeat (v .window) (counterOf N) ≡ false → length (v .key) ≡ 32 → prefixOf N ≡ v .prefix →
+      OpenCall (v .set) (keyOf v) N A C out (receiverAnswer v N A C (length out)) (receiverOutput v N A C out)
+  new-call f k h = plain-call k (not-twelve v N A C (length out) h) (not-fifteen v N A C (length out) f)
+
   pub fresh-call : Fresh v → length (v .key) ≡ 32 → prefixOf N ≡ v .prefix →
       OpenCall (v .set) (keyOf v) N A C out (receiverAnswer v N A C (length out)) (receiverOutput v N A C out)
-  fresh-call f k h = plain-call k (not-twelve v N A C (length out) h) (not-fifteen v N A C (length out) (none-yet (v .window) (counterOf N) f))
+  fresh-call f = new-call (none-yet (v .window) (counterOf N) f)
 
   -- what a call leaves
   pub next-refused : (receiverAnswer v N A C (length out) ≡ 0 → ⊥) → nextReceiver v N A C (length out) ≡ v

@@ -6,7 +6,7 @@ use Rattle.answers.specs.Rows.{numbers, isIn, ownNumbers}
 use Rattle.answers.proofs.RowLaws.{decides}
 use Rattle.receiver_rules.specs.Receiver.{makeRows, makeAnswer}
 use Rattle.receiver_rules.specs.Runs.{ReceiverTheorems}
-use Rattle.receiver_rules.proofs.ReceiverLaws.{made-so, made-none, none-answers, receiver-decides, left, plain-call, fresh-call}
+use Rattle.receiver_rules.proofs.ReceiverLaws.{made-so, made-none, none-answers, receiver-decides, left, plain-call, new-call, fresh-call}
 use Rattle.receiver_rules.proofs.Runs.{accepted-once, repeats-after, repeats-fresh, holds-accepted}
 
 pub receiver-theorems : ReceiverTheorems
@@ -20,6 +20,7 @@ receiver-theorems =
       on-none = none-answers;
       leaves = left;
       plain = plain-call;
+      new = new-call;
       takes = fresh-call;
       once = accepted-once;
       history = repeats-fresh;

@@ -69,7 +69,11 @@ pub record ReceiverTheorems : Type 0 where
   pub plain : (v : Receiver) (N A C out : List ℕ) → length (v .key) ≡ 32 → (receiverAnswer v N A C (length out) ≡ 12 → ⊥) →
       (receiverAnswer v N A C (length out) ≡ 15 → ⊥) →
       OpenCall (v .set) (keyOf v) N A C out (receiverAnswer v N A C (length out)) (receiverOutput v N A C out)
-  -- a fresh receiver takes every counter: under a nonce that begins with its number it has plain opening's answer and output
+  -- so a counter that is no repeat may open: under a nonce that begins with the receiver's number the answer and the output are those of
+  -- plain opening
+  pub new : (v : Receiver) (N A C out : List ℕ) → isRepeat (v .window) (counterOf N) ≡ false → length (v .key) ≡ 32 →
+      prefixOf N ≡ v .prefix → OpenCall (v .set) (keyOf v) N A C out (receiverAnswer v N A C (length out)) (receiverOutput v N A C out)
+  -- a fresh receiver takes every counter
   pub takes : (v : Receiver) (N A C out : List ℕ) → Fresh v → length (v .key) ≡ 32 → prefixOf N ≡ v .prefix →
       OpenCall (v .set) (keyOf v) N A C out (receiverAnswer v N A C (length out)) (receiverOutput v N A C out)
   -- for every list of openings, on any receiver, each counter is accepted at most once

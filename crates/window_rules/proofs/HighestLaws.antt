@@ -10,7 +10,7 @@ use borrow.Author.Tests.{ltb-true, ltb-false, eqb-true, eq-eqb, lt-leb}
 use lib.Dec.{eqb, ltb}
 use Rattle.window_rules.specs.Window.{bit, Window, recorded, recordedAll}
 use Rattle.window_rules.specs.Theorems.{isAmong, isTooLate, Holds}
-use Rattle.window_rules.proofs.WindowLaws.{or-false, or-true, within-near, repeat-begun, all-of, none-yet}
+use Rattle.window_rules.proofs.WindowLaws.{or-false, or-true, none-yet, marked-near, all-of}
 
 -- t is the greatest of h and a list
 record Top (h : ℕ) (ks : List ℕ) (t : ℕ) : Type 0 where
@@ -93,8 +93,7 @@ module _ (w : Window) (k : ℕ) (ks : List ℕ) (e : w .begun ≡ false) where
         marks = λ i p q.
             let c = last .highest - i in
             ap (bit (last .marks)) {x = i} {y = last .highest - c} (omega arith)
-            ∙ sym (within-near (last .highest) (last .marks) c (omega arith) (omega arith))
-            ∙ sym (repeat-begun last c (last-top .0))
+            ∙ sym (marked-near last c (last-top .0) (omega arith) (omega arith))
             ∙ all-of w counters c
             ∙ rw (none-yet w c e, none-above counters c (t .most) (omega arith)) (or-false (isAmong c counters));
       }

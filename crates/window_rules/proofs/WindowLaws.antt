@@ -28,16 +28,16 @@ or-true false = refl
 
 module _ (h m c : ℕ) where
   -- a repeat, where the window has begun
-  abbrev pub within : Bool
+  abbrev within : Bool
   within = leb c h && (leb 64 (h - c) || bit m (h - c))
 
-  pub within-above : h < c → within ≡ false
+  within-above : h < c → within ≡ false
   within-above p = rw (lt-leb c h p) refl
 
-  pub within-near : c ≤ h → h - c < 64 → within ≡ bit m (h - c)
+  within-near : c ≤ h → h - c < 64 → within ≡ bit m (h - c)
   within-near p q = rw (le-leb c h p, lt-leb 64 (h - c) q) refl
 
-  pub within-far : c ≤ h → 64 ≤ h - c → within ≡ true
+  within-far : c ≤ h → 64 ≤ h - c → within ≡ true
   within-far p q = rw (le-leb c h p, le-leb 64 (h - c) q) refl
 
   by-place : {P : Type 0} → (h < c → P) → (c ≤ h → h - c < 64 → P) → (c ≤ h → 64 ≤ h - c → P) → P
@@ -111,15 +111,28 @@ unfolding isRepeat
 none-yet w c e = rw e refl
 
 -- one that has begun
-pub repeat-begun : (w : Window) (c : ℕ) → w .begun ≡ true → isRepeat w c ≡ within (w .highest) (w .marks) c
+repeat-begun : (w : Window) (c : ℕ) → w .begun ≡ true → isRepeat w c ≡ within (w .highest) (w .marks) c
 unfolding isRepeat
 repeat-begun w c e = rw e refl
+
+pub none-above-highest : (w : Window) (c : ℕ) → w .highest < c → isRepeat w c ≡ false
+none-above-highest w c p = go (w .begun) refl
+  where
+    go : (b : Bool) → w .begun ≡ b → isRepeat w c ≡ false
+    go true e = repeat-begun w c e ∙ within-above (w .highest) (w .marks) c p
+    go false e = none-yet w c e
+
+pub marked-near : (w : Window) (c : ℕ) → w .begun ≡ true → c ≤ w .highest → w .highest - c < 64 → isRepeat w c ≡ bit (w .marks) (w .highest - c)
+marked-near w c e p q = repeat-begun w c e ∙ within-near (w .highest) (w .marks) c p q
+
+pub far-below : (w : Window) (c : ℕ) → w .begun ≡ true → c ≤ w .highest → 64 ≤ w .highest - c → isRepeat w c ≡ true
+far-below w c e p q = repeat-begun w c e ∙ within-far (w .highest) (w .marks) c p q
 
 -- what is not above the highest, and no repeat, is within 64 of it
 pub not-far : (w : Window) (c : ℕ) → w .begun ≡ true → c ≤ w .highest → isRepeat w c ≡ false → w .highest - c < 64
 not-far w c e p r =
     ⊎-elim
-    (λ (q : 64 ≤ w .highest - c). absurd (false≢true (sym r ∙ repeat-begun w c e ∙ within-far (w .highest) (w .marks) c p q)))
+    (λ (q : 64 ≤ w .highest - c). absurd (false≢true (sym r ∙ far-below w c e p q)))
     (λ q. q)
     (le-or-lt 64 (w .highest - c))
 

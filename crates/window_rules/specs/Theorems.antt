@@ -27,6 +27,10 @@ pub record Holds (w : Window) (ks : List ℕ) : Type 0 where
 pub record WindowTheorems : Type 0 where
   -- where none was accepted, none is a repeat, whatever the other fields hold
   pub fresh : (w : Window) (c : ℕ) → w .begun ≡ false → isRepeat w c ≡ false
+  -- a counter above the highest is no repeat; one of the 64 ending there is one exactly where it is marked
+  pub above : (w : Window) (c : ℕ) → w .highest < c → isRepeat w c ≡ false
+  pub near : (w : Window) (c : ℕ) → w .begun ≡ true → c ≤ w .highest → w .highest - c < 64 →
+      isRepeat w c ≡ bit (w .marks) (w .highest - c)
   -- after k is recorded, the repeats are those of before, k, and what is 64 or more below k
   pub one : (w : Window) (k c : ℕ) → isRepeat (recorded w k) c ≡ isRepeat w c || (eqb c k || leb (c + 64) k)
   -- after a list of counters likewise: those of before, the counters recorded, and what is 64 or more below one of them
