@@ -49,22 +49,15 @@ pub fn plain(number: u32, key: &[u8], call: &Opening) -> (u32, Vec<u8>) {
 
 impl Receiver {
     pub fn of(values: &Values) -> Receiver {
-        let Values {
-            set,
-            key,
-            prefix,
-            begun,
-            highest,
-            marks,
-        } = *values;
-        let marked = (0..64).filter(|i| marks >> i & 1 == 1);
+        let marked = (0..64).filter(|i| values.marks >> i & 1 == 1);
+        let highest = values.highest as i128;
         Receiver {
-            set,
-            key,
-            prefix,
-            begun,
-            highest,
-            accepted: marked.map(|i| highest as i128 - i as i128).collect(),
+            set: values.set,
+            key: values.key,
+            prefix: values.prefix,
+            begun: values.begun,
+            highest: values.highest,
+            accepted: marked.map(|i| highest - i as i128).collect(),
         }
     }
 

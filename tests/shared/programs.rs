@@ -1,5 +1,7 @@
-//! A program that prints a line for each record: a run of it, and its lines held to those that are expected.
+//! A program that prints a line for each record: a run of it, its lines held to those that are expected, and what its
+//! model is asked for.
 
+use super::seed::wrong;
 use std::fmt::Debug;
 use std::io::Write;
 use std::process::{Command, Stdio};
@@ -39,4 +41,26 @@ pub fn differences<R: Debug>(lists: &[(&[R], &[String])], found: &str) -> usize 
         }
     }
     count + found_lines.count()
+}
+
+/// What a model's arguments ask for: the script's records, its lines, or a run of a program, with a seed or without.
+pub fn act(
+    model: &str,
+    records: fn() -> Vec<u8>,
+    lines: fn() -> Vec<String>,
+    run: fn(&str, Option<&str>) -> !,
+) {
+    let args: Vec<String> = std::env::args().skip(1).collect();
+    let args: Vec<&str> = args.iter().map(|a| a.as_str()).collect();
+    let bytes = match args[..] {
+        ["stdin"] => records(),
+        ["stdout"] => (lines().join("\n") + "\n").into_bytes(),
+        ["run", program] => run(program, None),
+        ["run", program, word] => run(program, Some(word)),
+        _ => wrong(&format!(
+            "usage: {model} stdin | stdout | run PROGRAM [SEED]"
+        )),
+    };
+    let written = std::io::stdout().write_all(&bytes);
+    written.unwrap_or_else(|e| wrong(&format!("{model}: {e}")));
 }

@@ -11,7 +11,7 @@ use Rattle.answers.specs.Rows.{Row, answer, firstOf, Passes, numbers, isIn, own
 use Rattle.answers.proofs.RowLaws.{not-false, accepts, passes-parts, passed, refused, decides, two-parts}
 use Rattle.cba_mode.specs.Sets.{isSet, keyBytes}
 use Rattle.cba_mode.specs.Open.{isFalse, messageOf}
-use Rattle.cba_rules.specs.Checks.{setTag, badSet, badKey, badNonce, longData, forged, messageRows, ciphertextRows, sealRows, openChecks, openRows}
+use Rattle.cba_rules.specs.Checks.{setTag, badSet, badKey, badNonce, longData, forged, keyRows, messageRows, ciphertextRows, sealRows, openChecks, openRows}
 use Rattle.cba_rules.specs.Refusals.{sealing, opening, sealAnswer, openAnswer, sealLeaves, sealOutput, openLeaves, openOutput, SealCall, OpenCall}
 use Rattle.cba_rules.specs.Demands.{SealRefusals, OpenRefusals}
 
@@ -48,6 +48,11 @@ module _ (set key nonce ad : ℕ) (rows : List Row) where
     },
     p .1 .1 .1 .1,
   )
+
+-- a set and a key of its length pass
+pub key-passed : (set key : ℕ) → answer (keyRows set key) ≡ 0 → (isSet set ≡ true) × (key ≡ keyBytes set)
+unfolding numbers isIn ownNumbers
+key-passed set key e = let p = passed (keyRows set key) refl e in (not-false (isSet set) (p .0), is-length key (keyBytes set) (p .1 .0))
 
 -- a message that goes into out with its tag, and a ciphertext whose message does
 pub record Seals (t message out : ℕ) : Type 0 where

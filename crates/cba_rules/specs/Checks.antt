@@ -1,4 +1,5 @@
--- The checks of document 01's table, each a row over lengths in bytes, and the lists of them that several calls share.
+-- The checks of document 01's table, each a row over lengths in bytes, row 12 of document 02, and the lists of them that several calls
+-- share.
 -- Assumes nothing.
 use mathlib.Core.Bool.{Bool, not}
 use mathlib.Core.List.{List, [], _∷_, _++_}
@@ -42,6 +43,14 @@ noRoom result out = record { number = 7; when = ltb out result }
 -- 8, false: no message seals to this ciphertext, or a mark is not its log's
 abbrev pub forged : Bool → Row
 forged wrong = record { number = 8; when = wrong }
+
+-- 12, console: a nonce begins with another number than its own
+abbrev pub badStart : ℕ → ℕ → Row
+badStart its start = record { number = 12; when = not (eqb start its) }
+
+-- a set and a key of its length
+abbrev pub keyRows : ℕ → ℕ → List Row
+keyRows set key = badSet set ∷ badKey (keyBytes set) key ∷ []
 
 -- a message and the room for its sealing
 abbrev pub messageRows : ℕ → ℕ → ℕ → List Row

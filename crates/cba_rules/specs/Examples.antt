@@ -5,7 +5,7 @@ use mathlib.Core.List.{List, [], _∷_}
 use Prim.Native.Nat.{ℕ}
 use lib.Dec.{eqb}
 use lib.ListN.{getD}
-use Rattle.answers.specs.Rows.{answer}
+use Rattle.answers.specs.Rows.{Row, answer}
 use Rattle.cba_rules.specs.Checks.{sealRows, openRows}
 
 -- the answer, then set, key, nonce, data, message and room
@@ -30,7 +30,24 @@ sealCalls =
     ∷ (5 ∷ 1 ∷ 16 ∷ 12 ∷ 4096 ∷ 65537 ∷ 0 ∷ [])
     ∷ []
 
--- the same with a ciphertext, where a message seals to it
+-- the answer, then set and key
+abbrev pub keyCalls : List (List ℕ)
+keyCalls =
+    (0 ∷ 1 ∷ 16 ∷ [])
+    ∷ (0 ∷ 9 ∷ 24 ∷ [])
+    ∷ (0 ∷ 10 ∷ 32 ∷ [])
+    ∷ (1 ∷ 0 ∷ 16 ∷ [])
+    ∷ (1 ∷ 11 ∷ 0 ∷ [])
+    ∷ (2 ∷ 1 ∷ 15 ∷ [])
+    ∷ (2 ∷ 9 ∷ 32 ∷ [])
+    ∷ []
+
+-- by the rows of a call that is given no more
+unfoldable pub keysSo : (ℕ → ℕ → List Row) → List (List ℕ) → Bool
+keysSo rows [] = true
+keysSo rows (c ∷ cs) = eqb (answer (rows (getD c 1 0) (getD c 2 0))) (getD c 0 0) && keysSo rows cs
+
+-- sealing's again with a ciphertext, where a message seals to it
 abbrev pub openCalls : List (List ℕ)
 openCalls =
     (0 ∷ 1 ∷ 16 ∷ 12 ∷ 4096 ∷ 65540 ∷ 65536 ∷ [])

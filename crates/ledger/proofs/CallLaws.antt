@@ -1,33 +1,32 @@
 -- A making and a sealing on a ledger whose set is known: the checks in their groups, and the call.
 -- Assumes nothing.
 use mathlib.Core.Path.{_≡_, refl, sym, ap, ap₂, subst, _∙_}
-use mathlib.Core.Bool.{true, cond, not}
+use mathlib.Core.Bool.{true, cond}
 use mathlib.Core.List.{List, [], _∷_, _++_}
 use Prim.Native.Nat.{ℕ, _+_, _/_, _≤_}
 use native.Mathlib.Omega.{arith}
-use borrow.Author.Tests.{ne-eqb}
 use lib.Dec.{eqb}
 use lib.ListN.{length, take, drop}
 use Rattle.octets.specs.Strings.{over}
 use Rattle.octets.proofs.Parts.{size-of}
 use Rattle.answers.specs.Rows.{Row, answer, firstOf, numbers, isIn, ownNumbers}
-use Rattle.answers.proofs.RowLaws.{refuses, accepts, passed, neither, two-parts, stops, goes-on}
+use Rattle.answers.proofs.RowLaws.{refuses, passed, neither, two-parts}
 use Rattle.fips197.specs.Schedule.{isKey}
 use Rattle.fips197.specs.Cipher.{cipher}
 use Rattle.cba_mode.specs.Sets.{tagBits, capacity, tagBytes}
 use Rattle.cba_mode.specs.Seal.{sealWith}
-use Rattle.cba_rules.specs.Checks.{setTag, badKey, badNonce, messageRows}
+use Rattle.cba_rules.specs.Checks.{setTag, badKey, messageRows}
 use Rattle.cba_rules.specs.Refusals.{sealLeaves, SealCall}
-use Rattle.cba_rules.proofs.SetLaws.{set-fits, set-key, key-most}
-use Rattle.cba_rules.proofs.RefusalLaws.{is-length, has-length}
+use Rattle.cba_rules.proofs.SetLaws.{set-fits, set-key}
+use Rattle.cba_rules.proofs.RefusalLaws.{is-length}
 use Rattle.cba_sealing.specs.Calls.{Seals, Enc}
 use Rattle.cba_steps.specs.declared.parameters.Parameters.{Parameters}
 use Rattle.plain.specs.declared.sets.Set.the-variants.{Known, Unknown}
 use Rattle.plain.specs.Lookup.{lookupOf}
-use Rattle.plain.proofs.SetLaws.{is-known, is-unknown, its-values, its-key, its-tag}
-use Rattle.ledger_rules.specs.Ledger.{Ledger, noLedger, fresh, makeRows, makeAnswer, madeLedger, keyOf, consoleOf, badConsole, nonceRows, stale, chargeBy, spent, ownRows, headingAt, Source, sourceRow, sealCharge, ledgerChecks, ledgerRows, ledgerAnswer, charged, ledgerSealing, ledgerOutput, LedgerCall, carryRows, carryAnswer, withCharge, CarryCall}
+use Rattle.plain.proofs.SetLaws.{is-known, its-values, its-key, its-tag, unknown-answers, key-known, key-limit}
+use Rattle.ledger_rules.specs.Ledger.{Ledger, noLedger, fresh, makeRows, makeAnswer, madeLedger, keyOf, nonceRows, stale, chargeBy, spent, ownRows, headingAt, Source, sourceRow, sealCharge, ledgerChecks, ledgerRows, ledgerAnswer, charged, ledgerSealing, ledgerOutput, LedgerCall, carryRows, carryAnswer, withCharge, CarryCall}
 use Rattle.ledger_rules.specs.Ledger.Source.{given, named}
-use Rattle.ledger_rules.proofs.LedgerLaws.{make-accepted, made-none, made-fresh, own-checks, in-groups, ledger-known, ledger-accepted, ledger-refused, ledger-done, given-plain, carried-refused, carried-accepted}
+use Rattle.ledger_rules.proofs.LedgerLaws.{made-none, made-fresh, own-checks, in-groups, ledger-known, ledger-accepted, ledger-refused, ledger-done, given-plain, carried-refused, carried-accepted}
 
 -- ---- making
 
@@ -40,39 +39,18 @@ module _ (set : ℕ) (key : List ℕ) (console : ℕ) (l : Ledger) where
   accepted-making e f = (sym e, f ∙ sym (made-fresh set key console e))
 
 pub make-unknown : (set : ℕ) (key : List ℕ) → lookupOf set ≡ Unknown → 1 ≡ makeAnswer set key
-unfolding makeAnswer makeRows answer
-make-unknown set key h = rw (is-unknown set h) refl
+unfolding makeAnswer makeRows
+make-unknown set key h = unknown-answers set _ h
 
 pub make-known : (set : ℕ) (p : Parameters) (key : List ℕ) → lookupOf set ≡ Known p → answer (badKey (p .key / 8) (length key) ∷ []) ≡ makeAnswer set key
-unfolding makeAnswer makeRows answer
-make-known set p key h = rw (is-known set p h, its-key set p h) refl
+unfolding makeAnswer makeRows
+make-known set p key h = key-known set p (length key) h
 
 pub made-key : (set : ℕ) (key : List ℕ) → makeAnswer set key ≡ 0 → length key ≤ 32
-made-key set key e = let a = make-accepted set key e in omega (arith, a .1, key-most set (a .0))
+unfolding makeAnswer makeRows
+made-key set key e = key-limit set (length key) e
 
 -- ---- sealing
-
--- 3, then 12: s is the number that the nonce begins with
-module _ {r : ℕ} (console : ℕ) (N : List ℕ) (e : r ≡ answer (badNonce (length N) ∷ [])) where
-  pub nonce-refused : (r ≡ 0 → ⊥) → r ≡ answer (nonceRows console N)
-  unfolding numbers isIn ownNumbers
-  nonce-refused n = stops (badNonce (length N) ∷ []) (badConsole console N ∷ []) refl e n
-
-  pub nonce-length : r ≡ 0 → length N ≡ 12
-  unfolding numbers isIn ownNumbers
-  nonce-length z = is-length (length N) 12 (passed (badNonce (length N) ∷ []) refl (sym e ∙ z) .0)
-
-  pub console-refused : {s : ℕ} → r ≡ 0 → s ≡ consoleOf N → (s ≡ console → ⊥) → 12 ≡ answer (nonceRows console N)
-  unfolding numbers isIn ownNumbers
-  console-refused z f n =
-      goes-on (badNonce (length N) ∷ []) (badConsole console N ∷ []) refl e z
-      (sym (refuses [] (badConsole console N) [] tt (ap not (ne-eqb (consoleOf N) console (λ k. n (f ∙ k))))))
-
-  pub console-passed : {s : ℕ} → r ≡ 0 → s ≡ consoleOf N → s ≡ console → 0 ≡ answer (nonceRows console N)
-  unfolding numbers isIn ownNumbers
-  console-passed z f k =
-      goes-on (badNonce (length N) ∷ []) (badConsole console N ∷ []) refl e z
-      (sym (accepts (badConsole console N ∷ []) (has-length (consoleOf N) console (sym f ∙ k), tt)))
 
 -- the checks in their groups, by p's t, with source the answer of the data
 module _ (l : Ledger) (p : Parameters) (known : lookupOf (l .set) ≡ Known p) (N : List ℕ) (source message room : ℕ) where
@@ -100,8 +78,8 @@ module _ (l : Ledger) (p : Parameters) (known : lookupOf (l .set) ≡ Known p) (
       ∙ sym (ledger-known l N S message room (is-known (l .set) p known))
 
 pub unknown-refused : (l : Ledger) (N : List ℕ) (S : Source) (M out : List ℕ) → lookupOf (l .set) ≡ Unknown → LedgerCall l N S M out 1 l out
-unfolding ledgerAnswer ledgerRows answer
-unknown-refused l N S M out h = ledger-refused l N S M out 1 (rw (is-unknown (l .set) h) refl) (λ z. omega (arith, z))
+unfolding ledgerAnswer ledgerRows
+unknown-refused l N S M out h = ledger-refused l N S M out 1 (unknown-answers (l .set) _ h) (λ z. omega (arith, z))
 
 -- the part of the key that a call uses
 module _ (l : Ledger) (p : Parameters) (n : ℕ) (known : lookupOf (l .set) ≡ Known p) (e : n ≡ p .key / 8) where
@@ -152,9 +130,9 @@ named-seals l p N name M out known z =
 
 module _ (l : Ledger) where
   pub carry-unknown : lookupOf (l .set) ≡ Unknown → CarryCall l 1 l
-  unfolding carryAnswer carryRows answer
+  unfolding carryAnswer carryRows
   carry-unknown h =
-      let e : 1 ≡ carryAnswer l = rw (is-unknown (l .set) h) refl in
+      let e : 1 ≡ carryAnswer l = unknown-answers (l .set) [] h in
       record { answer-is = e; next-is = sym (carried-refused l (λ z. omega (arith, e, z))) }
 
   pub carry-known : (p : Parameters) → lookupOf (l .set) ≡ Known p → CarryCall l 0 (withCharge true l)

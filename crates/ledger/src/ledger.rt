@@ -11,6 +11,7 @@ use plain::key_check;
 use plain::lookup;
 use plain::message_check;
 use plain::nonce_check;
+use plain::start_check;
 ghost use mathlib.Core.Path.{_≡_};
 ghost use mathlib.Core.Bool.{true};
 ghost use mathlib.Core.List.{[], _∷_};
@@ -166,10 +167,7 @@ fn nonce_checks(console: u16, nonce: &[u8]) -> u32
     if refusal != 0 {
         return refusal;
     }
-    if console_of(nonce) != console {
-        return 12;
-    }
-    0
+    start_check(console as u64, console_of(nonce) as u64)
 }
 
 // The checks of a sealing after the set's and before the ledger's own, where source is what its data

@@ -8,9 +8,10 @@ use Rattle.answers.specs.Rows.{Row, answer, numbers, isIn, allIn}
 use Rattle.answers.specs.Table.{table, numbersOf}
 use Rattle.cba_mode.specs.Sets.{isSet, column}
 use Rattle.cba_mode.specs.Charge.{oldCharge, charge}
+use Rattle.cba_rules.specs.Examples.{keyCalls, keysSo}
 use Rattle.ledger_rules.specs.Ledger.{noLedger, makeRows, consoleOf, stale, chargeBy, spent, headingAt, isName, isKept, sourceRow, sealCharge, ledgerRows, ledgerAnswer, keepRows, keepAnswer, carryRows, carryAnswer}
 use Rattle.ledger_rules.specs.Ledger.Source.{given, named}
-use Rattle.ledger_rules.specs.Examples.{makings, sealings, namings, keepings, empties, carryings, makesSo, sealsSo, zeros, keepsSo, emptiesSo, carriesSo}
+use Rattle.ledger_rules.specs.Examples.{sealings, namings, keepings, empties, carryings, sealsSo, zeros, keepsSo, emptiesSo, carriesSo}
 
 -- every number of the rows is in the table of all answers
 abbrev Listed : List Row → Type 0
@@ -21,8 +22,8 @@ pub in-the-table : Listed (makeRows 0 0) × Listed (ledgerRows noLedger [] (give
 unfolding allIn isIn numbers numbersOf makeRows ledgerRows sourceRow keepRows carryRows
 in-the-table = (refl, refl, refl, refl, refl)
 
-pub making-examples : makesSo makings ≡ true
-unfolding makesSo answer makeRows isSet column
+pub making-examples : keysSo makeRows keyCalls ≡ true
+unfolding keysSo answer makeRows isSet column
 making-examples = refl
 
 pub sealing-examples : (b : Bool) → (sealsSo b zeros sealings ≡ true) × (sealsSo b named namings ≡ true)

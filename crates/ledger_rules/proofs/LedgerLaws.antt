@@ -11,7 +11,7 @@ use lib.ListN.{length, take}
 use lib.Pow.{pow-lt, pow-mono}
 use lib.Seq.{length-take-le}
 use Rattle.answers.specs.Rows.{Row, answer, firstOf, Passes, numbers, isIn, ownNumbers, Decides}
-use Rattle.answers.proofs.RowLaws.{not-false, accepts, passes-parts, passed, decides, two-parts, goes-on}
+use Rattle.answers.proofs.RowLaws.{not-false, accepts, passes-parts, decides, two-parts, goes-on}
 use Rattle.fips197.specs.Cipher.{cipher}
 use Rattle.cba_mode.specs.Sets.{isSet, column, keyBytes, tagBits, capacity}
 use Rattle.cba_mode.specs.Data.{tagOfData}
@@ -20,7 +20,7 @@ use Rattle.cba_mode.specs.Charge.{oldCharge, charge}
 use Rattle.cba_rules.specs.Checks.{setTag, badSet, messageRows}
 use Rattle.cba_rules.specs.Refusals.{sealing, sealAnswer, sealLeaves, sealOutput, SealCall}
 use Rattle.cba_rules.proofs.SetLaws.{set-fits, capacity-least}
-use Rattle.cba_rules.proofs.RefusalLaws.{Seals, is-length, has-length, message-passes, message-passed, seal-untouched, seal-accepts}
+use Rattle.cba_rules.proofs.RefusalLaws.{Seals, is-length, has-length, key-passed, message-passes, message-passed, seal-untouched, seal-accepts}
 use Rattle.ledger_rules.specs.Ledger.{Ledger, noLedger, fresh, makeRows, makeAnswer, madeLedger, keyOf, consoleOf, nonceRows, stale, chargeBy, spent, ownRows, headingAt, isName, isKept, Source, sourceRow, sealCharge, ledgerChecks, ledgerRows, ledgerAnswer, charged, nextLedger, ledgerSealing, ledgerOutput, LedgerCall, keepCharge, keepRows, keepAnswer, sumOf, keeping, keptLedger, carryRows, carryAnswer, withCharge, carriedLedger}
 use Rattle.ledger_rules.specs.Ledger.Source.{given, named}
 
@@ -28,10 +28,8 @@ use Rattle.ledger_rules.specs.Ledger.Source.{given, named}
 
 module _ (set : ℕ) (key : List ℕ) where
   pub make-accepted : makeAnswer set key ≡ 0 → (isSet set ≡ true) × (length key ≡ keyBytes set)
-  unfolding makeAnswer makeRows numbers isIn ownNumbers
-  make-accepted e =
-      let p = passed (makeRows set (length key)) refl e in
-      (not-false (isSet set) (p .0), is-length (length key) (keyBytes set) (p .1 .0))
+  unfolding makeAnswer makeRows
+  make-accepted e = key-passed set (length key) e
 
   -- a ledger that is not refused is fresh, and one that is refused is none
   pub made-fresh : (console : ℕ) → makeAnswer set key ≡ 0 → madeLedger set key console ≡ fresh true set key console

@@ -7,16 +7,8 @@ use Prim.Native.Nat.{ℕ, _-_}
 use lib.Dec.{eqb}
 use lib.ListN.{getD, take, replicate}
 use Rattle.answers.specs.Rows.{answer}
-use Rattle.ledger_rules.specs.Ledger.{Ledger, noHeadings, makeRows, Source, ledgerAnswer, keepAnswer, carryAnswer}
+use Rattle.ledger_rules.specs.Ledger.{Ledger, noHeadings, Source, ledgerAnswer, keepAnswer, carryAnswer}
 use Rattle.ledger_rules.specs.Ledger.Source.{given, named}
-
--- the answer, then set and key
-abbrev pub makings : List (List ℕ)
-makings = (0 ∷ 1 ∷ 16 ∷ []) ∷ (0 ∷ 9 ∷ 24 ∷ []) ∷ (0 ∷ 10 ∷ 32 ∷ []) ∷ (1 ∷ 0 ∷ 16 ∷ []) ∷ (1 ∷ 11 ∷ 0 ∷ []) ∷ (2 ∷ 1 ∷ 15 ∷ []) ∷ (2 ∷ 9 ∷ 32 ∷ []) ∷ []
-
-unfoldable pub makesSo : List (List ℕ) → Bool
-makesSo [] = true
-makesSo (c ∷ cs) = eqb (answer (makeRows (getD c 1 0) (getD c 2 0))) (getD c 0 0) && makesSo cs
 
 -- a nonce of so many bytes: the first two and the last, zeros between
 abbrev nonceOf : ℕ → ℕ → ℕ → ℕ → List ℕ

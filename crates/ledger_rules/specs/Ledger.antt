@@ -14,7 +14,7 @@ use Rattle.cba_mode.specs.Sets.{keyBytes, tagBits, capacity}
 use Rattle.cba_mode.specs.Data.{dataHash}
 use Rattle.cba_mode.specs.Seal.{sealWith}
 use Rattle.cba_mode.specs.Charge.{oldCharge, charge}
-use Rattle.cba_rules.specs.Checks.{setTag, badSet, badKey, badNonce, longData, messageRows}
+use Rattle.cba_rules.specs.Checks.{setTag, badSet, badNonce, badStart, longData, keyRows, messageRows}
 use Rattle.cba_rules.specs.Refusals.{sealing, sealLeaves}
 
 -- what is kept under a name, document 02's heading: whether there is something, and the sum of the data
@@ -56,7 +56,7 @@ noLedger =
 -- ---- making: 1, then 2
 
 unfoldable pub makeRows : ℕ → ℕ → List Row
-makeRows set key = badSet set ∷ badKey (keyBytes set) key ∷ []
+makeRows set key = keyRows set key
 
 unfoldable pub makeAnswer : ℕ → List ℕ → ℕ
 makeAnswer set key = answer (makeRows set (length key))
@@ -90,7 +90,7 @@ consoleOf N = number (take 2 N)
 
 -- 12, console: that is another number
 abbrev pub badConsole : ℕ → List ℕ → Row
-badConsole console N = record { number = 12; when = not (eqb (consoleOf N) console) }
+badConsole console N = badStart console (consoleOf N)
 
 -- the nonce's own checks: 3, 12
 abbrev pub nonceRows : ℕ → List ℕ → List Row

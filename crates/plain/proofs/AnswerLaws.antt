@@ -10,22 +10,22 @@ use lib.Dec.{T, eqb}
 use lib.ListN.{length, drop, replicate, length-replicate}
 use Rattle.octets.proofs.Parts.{size-of}
 use Rattle.answers.specs.Rows.{Row, answer, firstOf, numbers, isIn, ownNumbers}
-use Rattle.answers.proofs.RowLaws.{joined, listed}
+use Rattle.answers.proofs.RowLaws.{joined, listed, passed, stops, goes-on}
 use Rattle.fips197.specs.Cipher.{cipher, invCipher}
 use Rattle.cba_mode.specs.Sets.{capacity, keyBytes, tagBytes}
 use Rattle.cba_mode.specs.Seal.{ENC}
 use Rattle.cba_mode.specs.Open.{Opened, Answered, isFalse, messageOf, DEC}
 use Rattle.cba_mode.specs.Open.Opened.{opened, refused}
 use Rattle.octets.specs.Strings.{over}
-use Rattle.cba_rules.specs.Checks.{setTag, badSet, badKey, badNonce, longData, sealChecks, sealRows, openChecks, openRows}
+use Rattle.cba_rules.specs.Checks.{setTag, badSet, badKey, badNonce, badStart, longData, sealChecks, sealRows, openChecks, openRows}
 use Rattle.cba_rules.specs.Refusals.{sealing, opening, sealAnswer, openAnswer, sealLeaves, sealOutput, openLeaves, openOutput, SealCall, OpenCall}
 use Rattle.cba_rules.proofs.SetLaws.{set-fits, set-key}
-use Rattle.cba_rules.proofs.RefusalLaws.{Common, Opens, seal-refusals, seal-accepted, open-refusals, open-checked, open-parts, open-decides}
+use Rattle.cba_rules.proofs.RefusalLaws.{Common, Opens, is-length, seal-refusals, seal-accepted, open-refusals, open-checked, open-parts, open-decides}
 use Rattle.cba_steps.specs.declared.parameters.Parameters.{Parameters}
 use Rattle.plain.specs.declared.sets.Set.the-variants.{Known, Unknown}
 use Rattle.plain.specs.Lookup.{lookupOf}
 use Rattle.plain.specs.Accepted.{Sealable, SealedBy, Openable, OpenedBy}
-use Rattle.plain.proofs.SetLaws.{is-known, is-unknown, its-values}
+use Rattle.plain.proofs.SetLaws.{is-known, its-values, unknown-answers}
 
 -- ---- the groups of the checks, put together
 
@@ -45,8 +45,8 @@ pub seal-refused : (set : ℕ) (key N A M out : List ℕ) (r : ℕ) → r ≡ se
 seal-refused set key N A M out r e n = (e, sym (seal-refusals set key N A M out _ _ (refl, refl) .untouched (λ z. n (e ∙ z))))
 
 pub seal-unknown : (set : ℕ) (key N A M out : List ℕ) → lookupOf set ≡ Unknown → SealCall set key N A M out 1 out
-unfolding sealAnswer sealRows answer
-seal-unknown set key N A M out h = seal-refused set key N A M out 1 (rw (is-unknown set h) refl) (λ z. omega (arith, z))
+unfolding sealAnswer sealRows
+seal-unknown set key N A M out h = seal-refused set key N A M out 1 (unknown-answers set _ h) (λ z. omega (arith, z))
 
 module _ (set : ℕ) (p : Parameters) (known : lookupOf set ≡ Known p) (key N A M out : List ℕ) where
   -- the checks by p's values are those by the set's
@@ -78,14 +78,29 @@ module _ (set : ℕ) (p : Parameters) (known : lookupOf set ≡ Known p) (key N 
       let n : length C ≡ length M + setTag set = size-of out C r (length M + setTag set) w′ l (seal-accepted set key N A M out e .1 .room) in
       (sym e, w′ ∙ ap (λ (k : ℕ). C ++ drop k out) (sym n) ∙ ap (λ (a : ℕ). cond (eqb a 0) (over C out) out) (sym e))
 
+-- ---- 3, then 12: the nonce's length n, and the number that it begins with
+
+module _ {r : ℕ} (its n start : ℕ) (e : r ≡ answer (badNonce n ∷ [])) where
+  pub nonce-refused : (r ≡ 0 → ⊥) → r ≡ answer (badNonce n ∷ badStart its start ∷ [])
+  unfolding numbers isIn ownNumbers
+  nonce-refused k = stops (badNonce n ∷ []) (badStart its start ∷ []) refl e k
+
+  pub nonce-length : r ≡ 0 → n ≡ 12
+  unfolding numbers isIn ownNumbers
+  nonce-length z = is-length n 12 (passed (badNonce n ∷ []) refl (sym e ∙ z) .0)
+
+  pub start-follows : {s : ℕ} → r ≡ 0 → s ≡ answer (badStart its start ∷ []) → s ≡ answer (badNonce n ∷ badStart its start ∷ [])
+  unfolding numbers isIn ownNumbers
+  start-follows z f = goes-on (badNonce n ∷ []) (badStart its start ∷ []) refl e z f
+
 -- ---- opening
 
 open-refused : (set : ℕ) (key N A C out : List ℕ) (r : ℕ) → r ≡ openAnswer set key N A C out → (r ≡ 0 → ⊥) → (r ≡ 8 → ⊥) → OpenCall set key N A C out r out
 open-refused set key N A C out r e n m = (e, sym (open-refusals set key N A C out _ _ (refl, refl) .untouched (λ z. n (e ∙ z)) (λ z. m (e ∙ z))))
 
 pub open-unknown : (set : ℕ) (key N A C out : List ℕ) → lookupOf set ≡ Unknown → OpenCall set key N A C out 1 out
-unfolding openAnswer openRows answer
-open-unknown set key N A C out h = open-refused set key N A C out 1 (rw (is-unknown set h) refl) (λ z. omega (arith, z)) (λ z. omega (arith, z))
+unfolding openAnswer openRows
+open-unknown set key N A C out h = open-refused set key N A C out 1 (unknown-answers set _ h) (λ z. omega (arith, z)) (λ z. omega (arith, z))
 
 module _ (set : ℕ) (p : Parameters) (known : lookupOf set ≡ Known p) (key N A C out : List ℕ) where
   abbrev checks : List Row

@@ -14,9 +14,10 @@ use Rattle.cba_steps.specs.declared.parameters.Parameters.{Parameters}
 use Rattle.plain.specs.declared.sets.Set.{Set}
 use Rattle.plain.specs.declared.sets.Set.the-variants.{Known, Unknown}
 use Rattle.cba_mode.specs.Sets.{isSet, column, keyBytes, tagBytes}
-use Rattle.cba_rules.specs.Checks.{setTag}
+use Rattle.cba_rules.specs.Checks.{setTag, badSet, badKey, keyRows}
 use Rattle.cba_rules.proofs.SetLaws.{key-most}
-use Rattle.answers.specs.Rows.{answer}
+use Rattle.cba_rules.proofs.RefusalLaws.{key-passed}
+use Rattle.answers.specs.Rows.{Row, answer}
 use Rattle.plain.specs.Lookup.{lookupOf, numberOf, valuesOf, Lookups}
 
 -- τ and b are bytes
@@ -103,6 +104,22 @@ its-key set p h = ap (λ (x : ℕ). x / 8) (its-values set p h .0)
 
 pub its-tag : (set : ℕ) (p : Parameters) → lookupOf set ≡ Known p → tagBytes (p .tau) ≡ setTag set
 its-tag set p h = ap tagBytes (its-values set p h .1)
+
+-- a call that looks for the set first answers 1 without one, and else goes on
+pub unknown-answers : (set : ℕ) (rows : List Row) → lookupOf set ≡ Unknown → 1 ≡ answer (badSet set ∷ rows)
+unfolding answer
+unknown-answers set rows h = rw (is-unknown set h) refl
+
+pub known-goes-on : (set : ℕ) (p : Parameters) (rows : List Row) → lookupOf set ≡ Known p → answer rows ≡ answer (badSet set ∷ rows)
+unfolding answer
+known-goes-on set p rows h = rw (is-known set p h) refl
+
+-- and then for the key
+pub key-known : (set : ℕ) (p : Parameters) (key : ℕ) → lookupOf set ≡ Known p → answer (badKey (p .key / 8) key ∷ []) ≡ answer (keyRows set key)
+key-known set p key h = ap (λ (n : ℕ). answer (badKey n key ∷ [])) (its-key set p h) ∙ known-goes-on set p (badKey (keyBytes set) key ∷ []) h
+
+pub key-limit : (set key : ℕ) → answer (keyRows set key) ≡ 0 → key ≤ 32
+key-limit set key e = let a = key-passed set key e in omega (arith, a .1, key-most set (a .0))
 
 -- the part of a key of 32 bytes that a set uses
 pub key-part : (set : ℕ) (p : Parameters) (n : ℕ) (key : List ℕ) → lookupOf set ≡ Known p → n ≡ p .key / 8 → length key ≡ 32 →

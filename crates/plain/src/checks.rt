@@ -6,7 +6,7 @@ ghost use mathlib.Core.List.{[], _∷_};
 ghost use Prim.Native.Nat.{_/_};
 ghost use Rattle.answers.specs.Rows.{answer, firstOf};
 ghost use Rattle.cba_mode.specs.Sets.{tagBytes};
-ghost use Rattle.cba_rules.specs.Checks.{badKey, badNonce, longData, messageRows, ciphertextRows};
+ghost use Rattle.cba_rules.specs.Checks.{badKey, badNonce, badStart, longData, messageRows, ciphertextRows};
 
 const NONCE: usize = 12;
 
@@ -40,6 +40,16 @@ pub fn nonce_check(nonce: usize) -> u32
 {
     if nonce != NONCE {
         return 3;
+    }
+    0
+}
+
+// 12, by the number that a nonce begins with.
+pub fn start_check(its: u64, start: u64) -> u32
+    ensures { λ r. ⌜ r ≡ answer (badStart its start ∷ []) ⌝ }
+{
+    if start != its {
+        return 12;
     }
     0
 }

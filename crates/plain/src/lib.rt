@@ -12,6 +12,7 @@ pub use checks::first_of;
 pub use checks::key_check;
 pub use checks::message_check;
 pub use checks::nonce_check;
+pub use checks::start_check;
 pub use open::open_plain;
 pub use seal::seal_plain;
 pub use sets::Set;

@@ -1,54 +1,28 @@
--- A making and an opening on a receiver: the checks in their groups, and the call.
+-- An opening on a receiver whose set is known: the checks in their groups, and the call.
 -- Assumes nothing.
 use mathlib.Core.Path.{_≡_, refl, sym, ap, subst, _∙_}
-use mathlib.Core.Bool.{Bool, true, false, not}
+use mathlib.Core.Bool.{Bool, true, false}
 use mathlib.Core.List.{List, [], _∷_, _++_}
-use Prim.Native.Nat.{ℕ, _-_, _/_, _≤_}
+use Prim.Native.Nat.{ℕ, _-_, _/_}
 use native.Mathlib.Omega.{arith}
-use borrow.Author.Tests.{ne-eqb}
 use lib.Dec.{T}
 use lib.ListN.{length, take}
 use Rattle.answers.specs.Rows.{Row, answer, numbers, isIn, ownNumbers}
-use Rattle.answers.proofs.RowLaws.{not-false, refuses, accepts, passed, listed, stops, goes-on}
-use Rattle.cba_mode.specs.Sets.{isSet, keyBytes, tagBytes}
+use Rattle.answers.proofs.RowLaws.{refuses, passed, listed, stops, goes-on}
+use Rattle.cba_mode.specs.Sets.{tagBytes}
 use Rattle.cba_mode.specs.Open.{isFalse}
-use Rattle.cba_rules.specs.Checks.{badKey, forged}
+use Rattle.cba_rules.specs.Checks.{setTag, forged}
 use Rattle.cba_rules.specs.Refusals.{opening, OpenCall}
-use Rattle.cba_rules.proofs.SetLaws.{key-most}
-use Rattle.cba_rules.proofs.RefusalLaws.{is-length, has-length}
+use Rattle.cba_rules.proofs.RefusalLaws.{is-length}
 use Rattle.cba_steps.specs.declared.parameters.Parameters.{Parameters}
 use Rattle.plain.specs.declared.sets.Set.the-variants.{Known, Unknown}
 use Rattle.plain.specs.Lookup.{lookupOf}
-use Rattle.plain.proofs.SetLaws.{is-known, is-unknown, its-key, its-tag}
+use Rattle.plain.proofs.SetLaws.{its-key, its-tag, unknown-answers, known-goes-on}
 use Rattle.window_rules.specs.Window.{isRepeat}
-use Rattle.receiver_rules.specs.Receiver.{Receiver, makeRows, keyOf, prefixOf, counterOf, badPrefix, repeated, lengthChecks, receiverRows, receiverAnswer, withCounter, receiverOutput, ReceiverCall}
+use Rattle.receiver_rules.specs.Receiver.{Receiver, keyOf, counterOf, repeated, lengthChecks, receiverRows, receiverAnswer, withCounter, receiverOutput, ReceiverCall}
 use Rattle.receiver_rules.proofs.ReceiverLaws.{call-refused, next-refused, next-accepted, plain-call}
 
--- ---- making
-
-pub make-unknown : (set key : ℕ) → lookupOf set ≡ Unknown → 1 ≡ answer (makeRows set key)
-unfolding makeRows answer
-make-unknown set key h = rw (is-unknown set h) refl
-
-pub make-known : (set key : ℕ) (p : Parameters) → lookupOf set ≡ Known p → answer (badKey (p .key / 8) key ∷ []) ≡ answer (makeRows set key)
-unfolding makeRows answer
-make-known set key p h = rw (is-known set p h, its-key set p h) refl
-
-pub made-key : (set key : ℕ) → answer (makeRows set key) ≡ 0 → key ≤ 32
-unfolding makeRows numbers isIn ownNumbers
-made-key set key e =
-    let p = passed (makeRows set key) refl e in
-    omega (arith, is-length key (keyBytes set) (p .1 .0), key-most set (not-false (isSet set) (p .0)))
-
 -- ---- the checks of an opening
-
--- 12, by the number s that the nonce begins with
-module _ {s : ℕ} (prefix : ℕ) (N : List ℕ) (e : s ≡ prefixOf N) where
-  pub prefix-refused : (s ≡ prefix → ⊥) → 12 ≡ answer (badPrefix prefix N ∷ [])
-  prefix-refused n = sym (refuses [] (badPrefix prefix N) [] tt (ap not (ne-eqb (prefixOf N) prefix (λ z. n (e ∙ z)))))
-
-  pub prefix-passed : s ≡ prefix → 0 ≡ answer (badPrefix prefix N ∷ [])
-  prefix-passed z = sym (accepts (badPrefix prefix N ∷ []) (has-length (prefixOf N) prefix (sym e ∙ z), tt))
 
 module _ (t prefix : ℕ) (N : List ℕ) (ad ciphertext room : ℕ) where
   abbrev lengths : List Row
@@ -66,8 +40,8 @@ module _ (t prefix : ℕ) (N : List ℕ) (ad ciphertext room : ℕ) where
 -- ---- an opening
 
 pub unknown-refused : (v : Receiver) (N A C out : List ℕ) → lookupOf (v .set) ≡ Unknown → ReceiverCall v N A C out 1 v out
-unfolding receiverAnswer receiverRows answer
-unknown-refused v N A C out h = call-refused v N A C out 1 (rw (is-unknown (v .set) h) refl) (λ z. omega (arith, z)) (λ z. omega (arith, z))
+unfolding receiverAnswer receiverRows
+unknown-refused v N A C out h = call-refused v N A C out 1 (unknown-answers (v .set) _ h) (λ z. omega (arith, z)) (λ z. omega (arith, z))
 
 module _ (v : Receiver) (p : Parameters) (known : lookupOf (v .set) ≡ Known p) (N A C out : List ℕ) where
   abbrev its-answer : ℕ
@@ -82,8 +56,8 @@ module _ (v : Receiver) (p : Parameters) (known : lookupOf (v .set) ≡ Known p)
 
   -- on a set, the lengths and then these
   on-set : answer (its-lengths (tagBytes (p .tau)) ++ last-two) ≡ its-answer
-  unfolding receiverAnswer receiverRows answer
-  on-set = ap (λ (t : ℕ). answer (its-lengths t ++ last-two)) (its-tag (v .set) p known) ∙ rw (is-known (v .set) p known) refl
+  unfolding receiverAnswer receiverRows
+  on-set = ap (λ (t : ℕ). answer (its-lengths t ++ last-two)) (its-tag (v .set) p known) ∙ known-goes-on (v .set) p (its-lengths (setTag (v .set)) ++ last-two) known
 
   module _ {r : ℕ} (e : r ≡ answer (its-lengths (tagBytes (p .tau)))) where
     pub lengths-refused : (r ≡ 0 → ⊥) → ReceiverCall v N A C out r v out

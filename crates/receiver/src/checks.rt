@@ -8,12 +8,11 @@ use plain::first_of;
 use plain::key_check;
 use plain::lookup;
 use plain::nonce_check;
+use plain::start_check;
 ghost use mathlib.Core.Path.{_≡_};
-ghost use mathlib.Core.List.{[], _∷_};
-ghost use lib.ListN.{length};
 ghost use Rattle.answers.specs.Rows.{answer};
 ghost use Rattle.cba_mode.specs.Sets.{tagBytes};
-ghost use Rattle.receiver_rules.specs.Receiver.{makeRows, badPrefix, nonceRows, lengthChecks};
+ghost use Rattle.receiver_rules.specs.Receiver.{makeRows, nonceRows, lengthChecks};
 
 // 1 and 2 of a making.
 pub fn make_checks(set: u32, key: usize) -> u32
@@ -25,17 +24,6 @@ pub fn make_checks(set: u32, key: usize) -> u32
     key_check(p, key)
 }
 
-// 12.
-fn prefix_check(prefix: u32, nonce: &[u8]) -> u32
-    requires { ⌜ length (now nonce) ≡ 12 ⌝ }
-    ensures { λ r. ⌜ r ≡ answer (badPrefix prefix (now (nonce .entry)) ∷ []) ⌝ }
-{
-    if prefix_of(nonce) != prefix as u64 {
-        return 12;
-    }
-    0
-}
-
 // 3 and 12.
 fn nonce_checks(prefix: u32, nonce: &[u8]) -> u32
     ensures { λ r. ⌜ r ≡ answer (nonceRows prefix (now (nonce .entry))) ⌝ }
@@ -44,7 +32,7 @@ fn nonce_checks(prefix: u32, nonce: &[u8]) -> u32
     if refusal != 0 {
         return refusal;
     }
-    prefix_check(prefix, nonce)
+    start_check(prefix as u64, prefix_of(nonce))
 }
 
 // The checks of an opening after the set's and before 15.

@@ -8,15 +8,7 @@ use lib.Dec.{eqb}
 use lib.ListN.{getD, take, replicate}
 use Rattle.octets.specs.Numbers.{digits}
 use Rattle.answers.specs.Rows.{answer}
-use Rattle.receiver_rules.specs.Receiver.{Receiver, makeRows, prefixOf, counterOf, receiverRows}
-
--- the answer, then set and key
-abbrev pub makings : List (List ℕ)
-makings = (0 ∷ 1 ∷ 16 ∷ []) ∷ (0 ∷ 9 ∷ 24 ∷ []) ∷ (0 ∷ 10 ∷ 32 ∷ []) ∷ (1 ∷ 0 ∷ 16 ∷ []) ∷ (1 ∷ 11 ∷ 0 ∷ []) ∷ (2 ∷ 1 ∷ 15 ∷ []) ∷ (2 ∷ 9 ∷ 32 ∷ []) ∷ []
-
-unfoldable pub makesSo : List (List ℕ) → Bool
-makesSo [] = true
-makesSo (c ∷ cs) = eqb (answer (makeRows (getD c 1 0) (getD c 2 0))) (getD c 0 0) && makesSo cs
+use Rattle.receiver_rules.specs.Receiver.{Receiver, prefixOf, counterOf, receiverRows}
 
 -- the number that a nonce begins with, and its counter
 pub record Parts : Type 0 where

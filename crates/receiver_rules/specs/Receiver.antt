@@ -1,7 +1,7 @@
 -- A receiver (request F-7 of document 02): what a making and an opening answer, the next receiver, and the output.
 -- Assumes nothing.
 use mathlib.Core.Path.{_≡_}
-use mathlib.Core.Bool.{Bool, false, cond, not}
+use mathlib.Core.Bool.{Bool, false, cond}
 use mathlib.Core.List.{List, [], _∷_, _++_}
 use Prim.Native.Nat.{ℕ, _-_}
 use lib.Dec.{eqb}
@@ -10,7 +10,7 @@ use Rattle.octets.specs.Numbers.{number}
 use Rattle.answers.specs.Rows.{Row, answer}
 use Rattle.cba_mode.specs.Sets.{keyBytes}
 use Rattle.cba_mode.specs.Open.{isFalse, messageOf}
-use Rattle.cba_rules.specs.Checks.{setTag, badSet, badKey, badNonce, longData, forged, ciphertextRows}
+use Rattle.cba_rules.specs.Checks.{setTag, badSet, badNonce, badStart, longData, forged, keyRows, ciphertextRows}
 use Rattle.cba_rules.specs.Refusals.{opening, openLeaves}
 use Rattle.window_rules.specs.Window.{Window, isRepeat, recorded}
 
@@ -32,7 +32,7 @@ noReceiver = record { set = 0; key = replicate 32 0; prefix = 0; window = noWind
 -- ---- making: 1, then 2
 
 unfoldable pub makeRows : ℕ → ℕ → List Row
-makeRows set key = badSet set ∷ badKey (keyBytes set) key ∷ []
+makeRows set key = keyRows set key
 
 unfoldable pub makeAnswer : ℕ → List ℕ → ℕ
 makeAnswer set key = answer (makeRows set (length key))
@@ -63,7 +63,7 @@ counterOf N = number (drop 4 N)
 
 -- 12, console: the nonce begins with another number
 abbrev pub badPrefix : ℕ → List ℕ → Row
-badPrefix prefix N = record { number = 12; when = not (eqb (prefixOf N) prefix) }
+badPrefix prefix N = badStart prefix (prefixOf N)
 
 -- 15, repeat
 abbrev pub repeated : Bool → Row

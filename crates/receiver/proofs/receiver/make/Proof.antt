@@ -1,9 +1,9 @@
 -- `receiver::receiver::make` meets its contract.
 -- Assumes nothing.
 use mathlib.Core.Path.{sym, _∙_}
-use Rattle.receiver_rules.specs.Receiver.{makeAnswer}
+use Rattle.receiver_rules.specs.Receiver.{makeRows, makeAnswer}
 use Rattle.receiver_rules.proofs.ReceiverLaws.{made-so, made-none}
-use Rattle.receiver.proofs.CallLaws.{made-key}
+use Rattle.plain.proofs.SetLaws.{key-limit}
 use borrow.Author.Needs.{needs}
 use Rattle.receiver.proofs.receiver.make.Statement.{statement}
 use Rattle.receiver.proofs.receiver.make.Tie as tie
@@ -16,7 +16,8 @@ returns c =
     (e, c .none .ensures ∙ sym (made-none (a .set) (a .key .now) (a .prefix) (λ z. c .before .if1 .taken (e ∙ z))))
 
 begin-requires : tie.Need-begin-requires
-begin-requires c κs = made-key (c .before .before .before .args .set) _ (sym (c .before .make-checks .ensures) ∙ c .if1 .left)
+unfolding makeRows
+begin-requires c κs = key-limit (c .before .before .before .args .set) _ (sym (c .before .make-checks .ensures) ∙ c .if1 .left)
 
 returns-2 : tie.Need-returns-2
 unfolding makeAnswer
