@@ -25,7 +25,7 @@ pub both : (x y : Bool) → x && y ≡ true → (x ≡ true) × (y ≡ true)
 both true y h = (refl, h)
 both false y h = absurd (true-false h refl)
 
-or-right : (x y : Bool) → y ≡ true → x || y ≡ true
+pub or-right : (x y : Bool) → y ≡ true → x || y ≡ true
 or-right true y h = refl
 or-right false y h = h
 

@@ -7,9 +7,11 @@ use Prim.Native.Nat.{ℕ}
 use borrow.Author.Tests.{eqb-true, eqb-false, eq-eqb, ne-eqb}
 use lib.Dec.{eqb}
 use lib.ListN.{length}
+use Rattle.answers.specs.Rows.{isIn}
+use Rattle.answers.proofs.RowLaws.{or-right}
 use Rattle.window_rules.specs.Window.{Window, isRepeat, recorded, recordedAll}
-use Rattle.window_rules.specs.Theorems.{isAmong, isTooLate, Holds}
-use Rattle.window_rules.proofs.WindowLaws.{or-true, one-more, all-of, none-yet}
+use Rattle.window_rules.specs.Theorems.{isTooLate, Holds}
+use Rattle.window_rules.proofs.WindowLaws.{one-more, all-of, none-yet}
 use Rattle.window_rules.proofs.HighestLaws.{holds-all}
 use Rattle.receiver_rules.specs.Receiver.{Receiver, Fresh, counterOf, withCounter}
 use Rattle.receiver_rules.specs.Runs.{Opening, answerOn, after, run, accepted, NoneTwice}
@@ -45,7 +47,7 @@ window-after = by-openings (λ v m ks. m .window ≡ recordedAll (v .window) ks)
 
 -- a counter that is recorded is a repeat then
 itself : (v : Receiver) (c : ℕ) → isRepeat (recorded (v .window) c) c ≡ true
-itself v c = one-more (v .window) c c ∙ rw (eq-eqb c c refl) (or-true (isRepeat (v .window) c))
+itself v c = one-more (v .window) c c ∙ or-right (isRepeat (v .window) c) _ (rw (eq-eqb c c refl) refl)
 
 -- and a repeat stays one
 still : (v : Receiver) (k c : ℕ) → isRepeat (v .window) c ≡ true → isRepeat (recorded (v .window) k) c ≡ true
@@ -58,11 +60,11 @@ another v o c e r =
     ne-eqb c (counterOf (o .nonce)) (λ z. false≢true (sym (not-repeated v (o .nonce) (o .ad) (o .ciphertext) (length (o .out)) e) ∙ ap (isRepeat (v .window)) (sym z) ∙ r))
 
 -- none of these counters was a repeat before, and none is there twice
-once-each : (os : List Opening) (v : Receiver) → NoneTwice (accepted v os) × ((c : ℕ) → isRepeat (v .window) c ≡ true → isAmong c (accepted v os) ≡ false)
-unfolding isAmong
+once-each : (os : List Opening) (v : Receiver) → NoneTwice (accepted v os) × ((c : ℕ) → isRepeat (v .window) c ≡ true → isIn c (accepted v os) ≡ false)
+unfolding isIn
 once-each =
     by-openings
-    (λ v m ks. NoneTwice ks × ((c : ℕ) → isRepeat (v .window) c ≡ true → isAmong c ks ≡ false))
+    (λ v m ks. NoneTwice ks × ((c : ℕ) → isRepeat (v .window) c ≡ true → isIn c ks ≡ false))
     (λ v. (tt, λ c h. refl))
     (λ v m o ks e h. ((h .1 (counterOf (o .nonce)) (itself v (counterOf (o .nonce))), h .0), λ c r. rw (another v o c e r) (h .1 c (still v (counterOf (o .nonce)) c r))))
 
@@ -70,11 +72,11 @@ pub accepted-once : (v : Receiver) (os : List Opening) → NoneTwice (accepted v
 accepted-once v os = once-each os v .0
 
 pub repeats-after : (v : Receiver) (os : List Opening) (c : ℕ) →
-    isRepeat (run v os .window) c ≡ isRepeat (v .window) c || (isAmong c (accepted v os) || isTooLate c (accepted v os))
+    isRepeat (run v os .window) c ≡ isRepeat (v .window) c || (isIn c (accepted v os) || isTooLate c (accepted v os))
 repeats-after v os c = ap (λ (w : Window). isRepeat w c) (window-after os v) ∙ all-of (v .window) (accepted v os) c
 
 pub repeats-fresh : (v : Receiver) (os : List Opening) (c : ℕ) → Fresh v →
-    isRepeat (run v os .window) c ≡ isAmong c (accepted v os) || isTooLate c (accepted v os)
+    isRepeat (run v os .window) c ≡ isIn c (accepted v os) || isTooLate c (accepted v os)
 repeats-fresh v os c f = repeats-after v os c ∙ rw (none-yet (v .window) c f) refl
 
 pub holds-accepted : (v : Receiver) (os : List Opening) (k : ℕ) (ks : List ℕ) → Fresh v → accepted v os ≡ k ∷ ks → Holds (run v os .window) (k ∷ ks)

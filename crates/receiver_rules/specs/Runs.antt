@@ -6,12 +6,12 @@ use mathlib.Core.List.{List, [], _∷_, _++_}
 use Prim.Native.Nat.{ℕ, _-_}
 use lib.Dec.{eqb}
 use lib.ListN.{length, drop, replicate}
-use Rattle.answers.specs.Rows.{Decides}
+use Rattle.answers.specs.Rows.{isIn, Decides}
 use Rattle.cba_mode.specs.Open.{isFalse}
 use Rattle.cba_rules.specs.Checks.{setTag}
 use Rattle.cba_rules.specs.Refusals.{opening, OpenCall}
 use Rattle.window_rules.specs.Window.{isRepeat}
-use Rattle.window_rules.specs.Theorems.{isAmong, isTooLate, Holds}
+use Rattle.window_rules.specs.Theorems.{isTooLate, Holds}
 use Rattle.receiver_rules.specs.Receiver.{Receiver, noReceiver, makeRows, makeAnswer, begin, madeReceiver, Fresh, keyOf, prefixOf, counterOf, receiverRows, receiverAnswer, withCounter, nextReceiver, receiverOutput, ReceiverCall}
 
 -- what one opening is given
@@ -41,7 +41,7 @@ accepted v (o ∷ os) = cond (eqb (answerOn v o) 0) (counterOf (o .nonce) ∷ ac
 -- each is there at most once
 abbrev pub NoneTwice : List ℕ → Type 0
 NoneTwice [] = Unit {0}
-NoneTwice (c ∷ cs) = (isAmong c cs ≡ false) × NoneTwice cs
+NoneTwice (c ∷ cs) = (isIn c cs ≡ false) × NoneTwice cs
 
 -- what an opening that answers r leaves, out′ being the output at exit and v′ the next receiver
 pub record Left (v : Receiver) (N C out : List ℕ) (r : ℕ) (v′ : Receiver) (out′ : List ℕ) : Type 0 where
@@ -81,10 +81,10 @@ pub record ReceiverTheorems : Type 0 where
   -- after every list on a fresh receiver a counter is a repeat exactly where it was accepted, or some accepted counter is 64 or more
   -- above it
   pub history : (v : Receiver) (os : List Opening) (c : ℕ) → Fresh v →
-      isRepeat (run v os .window) c ≡ isAmong c (accepted v os) || isTooLate c (accepted v os)
+      isRepeat (run v os .window) c ≡ isIn c (accepted v os) || isTooLate c (accepted v os)
   -- and on any receiver exactly there, or where it was one before
   pub further : (v : Receiver) (os : List Opening) (c : ℕ) →
-      isRepeat (run v os .window) c ≡ isRepeat (v .window) c || (isAmong c (accepted v os) || isTooLate c (accepted v os))
+      isRepeat (run v os .window) c ≡ isRepeat (v .window) c || (isIn c (accepted v os) || isTooLate c (accepted v os))
   -- and where any was accepted, it holds the highest of them, and which of the 64 ending there were
   pub holds : (v : Receiver) (os : List Opening) (k : ℕ) (ks : List ℕ) → Fresh v → accepted v os ≡ k ∷ ks →
       Holds (run v os .window) (k ∷ ks)

@@ -8,27 +8,29 @@ use Prim.Native.Nat.{ℕ, _+_, _-_, _<_, _≤_}
 use native.Mathlib.Omega.{arith}
 use borrow.Author.Tests.{ltb-true, ltb-false, eqb-true, eq-eqb, lt-leb}
 use lib.Dec.{eqb, ltb}
+use Rattle.answers.specs.Rows.{isIn}
+use Rattle.answers.proofs.RowLaws.{or-right}
 use Rattle.window_rules.specs.Window.{bit, Window, recorded, recordedAll}
-use Rattle.window_rules.specs.Theorems.{isAmong, isTooLate, Holds}
-use Rattle.window_rules.proofs.WindowLaws.{or-false, or-true, none-yet, marked-near, all-of}
+use Rattle.window_rules.specs.Theorems.{isTooLate, Holds}
+use Rattle.window_rules.proofs.WindowLaws.{or-false, none-yet, marked-near, all-of}
 
 -- t is the greatest of h and a list
 record Top (h : ℕ) (ks : List ℕ) (t : ℕ) : Type 0 where
   pub least : h ≤ t
-  pub one-of : (t ≡ h) ⊎ (isAmong t ks ≡ true)
-  pub most : (c : ℕ) → isAmong c ks ≡ true → c ≤ t
+  pub one-of : (t ≡ h) ⊎ (isIn t ks ≡ true)
+  pub most : (c : ℕ) → isIn c ks ≡ true → c ≤ t
 
 -- one counter more
 top-more : {h m k t : ℕ} {ks : List ℕ} → h ≤ m → k ≤ m → (m ≡ h) ⊎ (m ≡ k) → Top m ks t → Top h (k ∷ ks) t
-unfolding isAmong
+unfolding isIn
 top-more {h} {m} {k} {t} {ks} p q e v =
     record {
       least = omega (arith, v .least);
-      one-of = ⊎-elim (λ (f : t ≡ m). ⊎-elim (λ (g : m ≡ h). inl (f ∙ g)) (λ (g : m ≡ k). inr (rw (eq-eqb t k (f ∙ g)) refl)) e) (λ i. inr (ap (_||_ (eqb t k)) i ∙ or-true (eqb t k))) (v .one-of);
+      one-of = ⊎-elim (λ (f : t ≡ m). ⊎-elim (λ (g : m ≡ h). inl (f ∙ g)) (λ (g : m ≡ k). inr (rw (eq-eqb t k (f ∙ g)) refl)) e) (λ i. inr (or-right (eqb t k) (isIn t ks) i)) (v .one-of);
       most = λ c i. go c (eqb c k) refl i;
     }
   where
-    go : (c : ℕ) (b : Bool) → eqb c k ≡ b → eqb c k || isAmong c ks ≡ true → c ≤ t
+    go : (c : ℕ) (b : Bool) → eqb c k ≡ b → eqb c k || isIn c ks ≡ true → c ≤ t
     go c true f i = omega (arith, v .least, eqb-true c k f)
     go c false f i = v .most c (rw f at i)
 
@@ -51,16 +53,16 @@ recorded-top w k t ks b = go (ltb (w .highest) k) refl
     go false f = let p = ltb-false (w .highest) k f in rw (b, f) (top-more (omega arith) p (inl refl))
 
 top : (ks : List ℕ) (w : Window) → w .begun ≡ true → (recordedAll w ks .begun ≡ true) × Top (w .highest) ks (recordedAll w ks .highest)
-unfolding recordedAll isAmong
+unfolding recordedAll isIn
 top [] w b = (b, record { least = omega arith; one-of = inl refl; most = λ c h. absurd (false≢true h) })
 top (k ∷ ks) w b = let r = top ks (recorded w k) (recorded-begun w k) in (r .0, recorded-top w k _ ks b (r .1))
 
 -- none of a list is 64 or more above what is within 64 of their greatest
-none-above : {t : ℕ} (ks : List ℕ) (c : ℕ) → ((k : ℕ) → isAmong k ks ≡ true → k ≤ t) → t < c + 64 → isTooLate c ks ≡ false
-unfolding isTooLate isAmong
+none-above : {t : ℕ} (ks : List ℕ) (c : ℕ) → ((k : ℕ) → isIn k ks ≡ true → k ≤ t) → t < c + 64 → isTooLate c ks ≡ false
+unfolding isTooLate isIn
 none-above {t} [] c most p = refl
 none-above {t} (k ∷ ks) c most p =
-    rw (lt-leb (c + 64) k (omega (arith, most k (rw (eq-eqb k k refl) refl)))) (none-above ks c (λ i m. most i (ap (_||_ (eqb i k)) m ∙ or-true (eqb i k))) p)
+    rw (lt-leb (c + 64) k (omega (arith, most k (rw (eq-eqb k k refl) refl)))) (none-above ks c (λ i m. most i (or-right (eqb i k) (isIn i ks) m)) p)
 
 module _ (w : Window) (k : ℕ) (ks : List ℕ) (e : w .begun ≡ false) where
   abbrev counters : List ℕ
@@ -79,8 +81,8 @@ module _ (w : Window) (k : ℕ) (ks : List ℕ) (e : w .begun ≡ false) where
       let r = top ks (recorded w k) (recorded-begun w k) in
       (r .0, top-more (omega arith) (omega arith) (inl refl) (subst (λ (h : ℕ). Top h ks (last .highest)) start (r .1)))
 
-  first-of : {c : ℕ} → c ≡ k → isAmong c counters ≡ true
-  unfolding isAmong
+  first-of : {c : ℕ} → c ≡ k → isIn c counters ≡ true
+  unfolding isIn
   first-of {c} f = rw (eq-eqb c k f) refl
 
   pub holds-all : Holds last counters
@@ -95,5 +97,5 @@ module _ (w : Window) (k : ℕ) (ks : List ℕ) (e : w .begun ≡ false) where
             ap (bit (last .marks)) {x = i} {y = last .highest - c} (omega arith)
             ∙ sym (marked-near last c (last-top .0) (omega arith) (omega arith))
             ∙ all-of w counters c
-            ∙ rw (none-yet w c e, none-above counters c (t .most) (omega arith)) (or-false (isAmong c counters));
+            ∙ rw (none-yet w c e, none-above counters c (t .most) (omega arith)) (or-false (isIn c counters));
       }

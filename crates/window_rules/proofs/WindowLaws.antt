@@ -10,8 +10,10 @@ use borrow.Author.Tests.{ltb-true, ltb-false, ne-eqb, le-leb, lt-leb}
 use lib.Bits.{bitOr}
 use lib.Dec.{eqb, ltb, leb}
 use Rattle.octets.proofs.Tests.{le-or-lt}
+use Rattle.answers.specs.Rows.{isIn}
+use Rattle.answers.proofs.RowLaws.{or-right}
 use Rattle.window_rules.specs.Window.{bit, Window, isRepeat, recorded, recordedAll}
-use Rattle.window_rules.specs.Theorems.{isAmong, isTooLate}
+use Rattle.window_rules.specs.Theorems.{isTooLate}
 use Rattle.window_rules.proofs.BitLaws.{same-test, bit-or, bit-below, bit-above, bit-cut, bit-power}
 
 -- ---- Booleans
@@ -19,10 +21,6 @@ use Rattle.window_rules.proofs.BitLaws.{same-test, bit-or, bit-below, b
 pub or-false : (x : Bool) → x || false ≡ x
 or-false true = refl
 or-false false = refl
-
-pub or-true : (x : Bool) → x || true ≡ true
-or-true true = refl
-or-true false = refl
 
 -- ---- a counter's place below h: above it, within 64, or further below
 
@@ -56,7 +54,7 @@ module _ (k c : ℕ) where
   new-above p = new-near (omega arith) ∙ ne-eqb c k (λ e. omega arith)
 
   new-far : c + 64 ≤ k → new ≡ true
-  new-far p = rw (le-leb (c + 64) k p) (or-true (eqb c k))
+  new-far p = or-right (eqb c k) (leb (c + 64) k) (le-leb (c + 64) k p)
 
   -- its own mark, j below h
   its-mark : (h j : ℕ) → k + j ≡ h → c ≤ h → k < c + 64 → bit (2 ^ j) (h - c) ≡ new
@@ -92,7 +90,7 @@ module _ (k c : ℕ) where
         within-near k up c p q
         ∙ bit-or (m * 2 ^ (k - h) % 2 ^ 64) 1 (k - c)
         ∙ ap₂ _||_ (bit-cut (m * 2 ^ (k - h)) (k - c) q ∙ mark-moved g p q) (its-mark k 0 (omega arith) p (omega arith)))
-        (λ p q. within-far k up c p q ∙ sym (ap (_||_ (within h m c)) (new-far (omega arith)) ∙ or-true (within h m c)))
+        (λ p q. within-far k up c p q ∙ sym (or-right (within h m c) new (new-far (omega arith))))
 
     after-marked : k ≤ h → within h (bitOr m (2 ^ (h - k))) c ≡ within h m c || new
     after-marked g =
@@ -145,16 +143,16 @@ one-more w k c = go (w .begun) refl (ltb (w .highest) k) refl
     go true e true f = rw (e, f) (after-moved k c (w .highest) (w .marks) (ltb-true (w .highest) k f))
     go true e false f = rw (e, f) (after-marked k c (w .highest) (w .marks) (ltb-false (w .highest) k f))
 
-pub all-of : (w : Window) (ks : List ℕ) (c : ℕ) → isRepeat (recordedAll w ks) c ≡ isRepeat w c || (isAmong c ks || isTooLate c ks)
-unfolding recordedAll isAmong isTooLate
+pub all-of : (w : Window) (ks : List ℕ) (c : ℕ) → isRepeat (recordedAll w ks) c ≡ isRepeat w c || (isIn c ks || isTooLate c ks)
+unfolding recordedAll isIn isTooLate
 all-of w [] c = sym (or-false (isRepeat w c))
 all-of w (k ∷ ks) c =
     all-of (recorded w k) ks c
-    ∙ ap (λ (x : Bool). x || (isAmong c ks || isTooLate c ks)) (one-more w k c)
-    ∙ regroup (isRepeat w c) (eqb c k) (leb (c + 64) k) (isAmong c ks) (isTooLate c ks)
+    ∙ ap (λ (x : Bool). x || (isIn c ks || isTooLate c ks)) (one-more w k c)
+    ∙ regroup (isRepeat w c) (eqb c k) (leb (c + 64) k) (isIn c ks) (isTooLate c ks)
   where
     regroup : (r e l a f : Bool) → (r || (e || l)) || (a || f) ≡ r || ((e || a) || (l || f))
     regroup true e l a f = refl
     regroup false true l a f = refl
-    regroup false false true a f = sym (or-true a)
+    regroup false false true a f = sym (or-right a true refl)
     regroup false false false a f = refl
