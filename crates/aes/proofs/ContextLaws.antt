@@ -1,16 +1,15 @@
 -- The context as it is made, and as the rounds read it.
 -- Assumes nothing.
-use mathlib.Core.Path.{_≡_, refl, ap, _∙_}
+use mathlib.Core.Path.{_≡_, refl, ap, ap₂, _∙_}
 use mathlib.Core.Bool.{true, false}
-use mathlib.Core.List.{List, [], _++_, append-nil, append-assoc}
+use mathlib.Core.List.{List, _++_, append-assoc}
 use Prim.Native.Nat.{ℕ, suc, _+_, _-_, _*_, _<_, _≤_}
 use native.Mathlib.Omega.{arith}
 use lib.Dec.{eqb}
-use lib.ListN.{length, take, drop, replicate, length-append, length-drop, drop-of-length-le}
+use lib.ListN.{length, take, drop, replicate, length-append, length-drop}
 use lib.Seq.{take-at, drop-at}
 use Rattle.octets.specs.Strings.{Bytes, table, over}
 use Rattle.octets.proofs.Strings.{length-table}
-use Rattle.octets.proofs.Parts.{to-end}
 use Rattle.field.specs.SBox.{invSBox}
 use Rattle.aes_tables.specs.Round.{entry, inverseEntry, entries, forward, inverses}
 use Rattle.aes_tables.proofs.RoundLaws.{length-entry, length-inverseEntry, length-entries}
@@ -20,8 +19,10 @@ use Rattle.fips197.specs.Cipher.{keyRounds}
 use Rattle.fips197.proofs.ScheduleLaws.{key-words, keyExpansion-octets}
 use Rattle.fips197.proofs.EquivalentLaws.{either-size}
 use Rattle.fips197.proofs.Equivalent.{length-EIC}
+use Rattle.aes_schedule.specs.Boxes.{Boxes}
+use Rattle.aes_schedule.proofs.ExpandLaws.{boxes-append}
 use Rattle.aes.specs.Tables.{Entries}
-use Rattle.aes.proofs.TableLaws.{table-entries}
+use Rattle.aes.proofs.TableLaws.{entry-boxes, table-entries}
 use Rattle.aes.specs.Context.{held, blankOf, Holds, Encrypts, Decrypts, scheduleAt, KeysAt, answer, answered}
 
 pub length-forward : length forward ≡ 2048
@@ -36,17 +37,18 @@ length-inverses =
 cut : (s p q : List ℕ) (n : ℕ) → s ≡ p ++ q → length p ≡ n → (take n s ≡ p) × (drop n s ≡ q)
 cut s p q n e l = (ap (take n) e ∙ take-at p q n l, ap (drop n) e ∙ drop-at p q n l)
 
--- round keys written behind the tables
-pub context-made : (tables : List ℕ) (n : ℕ) (s ctx last : List ℕ) → length tables ≡ n → ctx ≡ blankOf tables →
-    last ≡ over s (take (length ctx - n) (drop n ctx)) →
-    take n ctx ++ (last ++ drop (length ctx - n) (drop n ctx)) ≡ tables ++ over s (replicate 240 0)
-context-made tables n s ctx last l e p =
-    let q = cut ctx tables (replicate 240 0) n e l in
-    let none : drop (length ctx - n) (drop n ctx) ≡ [] = drop-of-length-le (drop n ctx) {i = length ctx - n} (simp length-drop (omega arith)) in
-    rw (none, p, to-end ctx n, q .0, q .1) (ap (λ (x : List ℕ). tables ++ x) (append-nil (over s (replicate 240 0))))
-
 pub blank-long : (tables : List ℕ) (n : ℕ) (ctx : List ℕ) → length tables ≡ n → ctx ≡ blankOf tables → length ctx ≡ n + 240
 blank-long tables n ctx l e = ap length e ∙ length-append tables (replicate 240 0) ∙ omega arith
+
+-- the S-box in the context with no key, and the context after its schedule is written
+pub blank-boxes : (ctx : List ℕ) → ctx ≡ blankOf forward → Boxes ctx
+blank-boxes ctx e = rw e (boxes-append (entry-boxes (table-entries entry length-entry forward refl)) (replicate 240 0))
+
+pub encrypts-made : (key ctx last : List ℕ) → isKey key ≡ true → ctx ≡ blankOf forward → last ≡ take 2048 ctx ++ over (keyExpansion key) (drop 2048 ctx) → Encrypts key last
+unfolding held
+encrypts-made key ctx last h e p =
+    let q = cut ctx forward (replicate 240 0) 2048 e length-forward in
+    record { good = h; context = p ∙ ap₂ (λ (s d : List ℕ). s ++ over (keyExpansion key) d) (q .0) (q .1) }
 
 module _ (tables w key ctx : List ℕ) (h : Holds tables w key ctx) (n : ℕ) (l : length tables ≡ n) where
   parts : (take n ctx ≡ tables) × (drop n ctx ≡ held w)

@@ -1,3 +1,4 @@
 pub mod TableLaws
 pub mod ContextLaws
 pub mod FillLaws
+pub mod PairLaws

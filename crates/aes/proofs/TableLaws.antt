@@ -19,6 +19,7 @@ use Rattle.aes_tables.proofs.RoundLaws.{length-entries, getD-entries}
 use Rattle.fips197.specs.State.{at, state}
 use Rattle.fips197.specs.Steps.{subBytes, shiftRows, timesMatrix, mixColumns, invSubBytes, invShiftRows, invMixColumns}
 use Rattle.aes_schedule.specs.declared.words.Words.{Words}
+use Rattle.aes_schedule.specs.Boxes.{Boxes}
 use Rattle.aes_schedule.specs.Words.{bytesOf, blockOf, wordAt, lookedUp}
 use Rattle.aes_schedule.proofs.WordLaws.{four, block-words, looked-up}
 use Rattle.aes.specs.Tables.{addedUp, timesColumn, unmixedColumn, subBoxed, onColumn, Entries}
@@ -136,9 +137,9 @@ unmixed-key w n h p q u v ep eq eu ev =
     ap₂ _++_ ep (ap₂ _++_ eq (ap₂ _++_ eu ev)) ∙ ap invMixColumns (block-words w (16 * n) (omega (arith, h)) _ _ _ _ refl refl refl refl)
 
 -- the S-box in the table of encryption
-pub entry-second : (t : List ℕ) → Entries entry t → (x : ℕ) → x < 256 → getD t (8 * x + 1) 0 ≡ sBox x
+pub entry-boxes : {t : List ℕ} → Entries entry t → Boxes t
 unfolding entry multiples
-entry-second t r x h = entry-byte t r x 1 (8 * x + 1) h (omega arith) refl ∙ mul-one (sBox x) (sBox-byte x)
+entry-boxes r = record { long = omega (arith, r .size); box-is = λ v h. r .byte-is v 1 h (omega arith) ∙ mul-one (sBox v) (sBox-byte v) }
 
 pub table-entries : (e : ℕ → List ℕ) → ((v : ℕ) → length (e v) ≡ 8) → (t : List ℕ) → t ≡ entries e 0 256 → Entries e t
 table-entries e l t p =

@@ -23,7 +23,7 @@ ghost use Rattle.aes_schedule.specs.Words.{blockOf};
 ghost use Rattle.aes.specs.Tables.{Entries};
 
 // A full round, with round key n.
-fn full_round(t: &[u8], w: &[u8], n: usize, k: Words) -> Words
+pub fn full_round(t: &[u8], w: &[u8], n: usize, k: Words) -> Words
     requires { ⌜ Entries entry (now t) ⌝ }
     requires { ⌜ 16 * suc n ≤ length (now w) ⌝ }
     ensures { λ r. ⌜ blockOf r ≡ fullRound (now (w .entry)) n (blockOf k) ⌝ }

@@ -62,8 +62,7 @@ pub fn fill(key: &[u8], ctx: &mut [u8])
     requires { ⌜ now ctx ≡ blankOf forward ⌝ }
     ensures { λ _. ⌜ Encrypts (now (key .entry)) (now (ctx .exit)) ⌝ }
 {
-    let s = field::s_box();
-    expand(key, &s, &mut ctx[KEYS..]);
+    expand(key, KEYS, ctx);
 }
 
 // Fills a blank context for decryption, from the key's context: the schedule, with InvMixColumns on

@@ -38,7 +38,7 @@ fn inv_sub(s: &[u8], k: Words) -> Words
 }
 
 // InvSubBytes, InvShiftRows.
-fn inv_sub_shift(s: &[u8], k: Words) -> Words
+pub fn inv_sub_shift(s: &[u8], k: Words) -> Words
     requires { ⌜ now s ≡ table invSBox 256 ⌝ }
     ensures { λ r. ⌜ blockOf r ≡ invShiftRows (invSubBytes (blockOf k)) ⌝ }
 {
@@ -64,7 +64,7 @@ fn inv_sub_shift_mix(t: &[u8], k: Words) -> Words
 }
 
 // A full round, with round key n.
-fn full_inv_round(t: &[u8], w: &[u8], n: usize, k: Words) -> Words
+pub fn full_inv_round(t: &[u8], w: &[u8], n: usize, k: Words) -> Words
     requires { ⌜ Entries inverseEntry (now t) ⌝ }
     requires { ⌜ 16 * suc n ≤ length (now w) ⌝ }
     ensures { λ r. ⌜ blockOf r ≡ eqFullRound (now (w .entry)) n (blockOf k) ⌝ }

@@ -1,7 +1,7 @@
 // The round keys of decryption: InvMixColumns of those of encryption, column by column.
-use crate::table::boxed;
 use crate::table::mixed;
 use aes_schedule::Words;
+use aes_schedule::boxed;
 use aes_schedule::join;
 ghost use mathlib.Core.Path.{_≡_};
 ghost use Prim.Native.Nat.{_+_, _*_, _≤_, suc};

@@ -6,6 +6,7 @@ mod cipher;
 mod context;
 mod inverse;
 mod inverse_keys;
+mod pairs;
 mod table;
 
 pub use cipher::encrypt;
@@ -21,6 +22,10 @@ pub use context::is_key;
 pub use inverse::decrypt;
 pub use inverse::decrypt_words;
 pub use inverse::inverse_state;
+pub use pairs::Pair;
+pub use pairs::decrypt_pair;
+pub use pairs::encrypt_pair;
+pub use pairs::xor_pair;
 ghost use mathlib.Core.Path.{_≡_};
 ghost use Rattle.fips197.specs.Cipher.{cipher, invCipher};
 ghost use Rattle.aes.specs.Context.{answer, answered};

@@ -1,5 +1,6 @@
 // The steps of a round by table, on words.
 use aes_schedule::Words;
+use aes_schedule::boxed;
 use aes_schedule::first;
 use aes_schedule::fourth;
 use aes_schedule::join;
@@ -11,7 +12,6 @@ use aes_schedule::xor_words;
 ghost use mathlib.Core.Path.{_≡_};
 ghost use Prim.Native.Nat.{_*_, _/_, _%_, _≤_, suc};
 ghost use lib.ListN.{length};
-ghost use Rattle.field.specs.SBox.{sBox};
 ghost use Rattle.aes_tables.specs.Round.{entry};
 ghost use Rattle.fips197.specs.Steps.{subBytes, shiftRows, mixColumns, addRoundKey};
 ghost use Rattle.aes_schedule.specs.Words.{bytesOf, blockOf};
@@ -40,14 +40,6 @@ pub fn sub_shift_mix(t: &[u8], k: Words) -> Words
         c: mixed(t, k.c, k.d, k.a, k.b),
         d: mixed(t, k.d, k.a, k.b, k.c),
     }
-}
-
-// The S-box: the second byte of an entry.
-pub fn boxed(t: &[u8], x: u8) -> u8
-    requires { ⌜ Entries entry (now t) ⌝ }
-    ensures { λ r. ⌜ r ≡ sBox x ⌝ }
-{
-    t[8 * x as usize + 1]
 }
 
 // SubBytes of a column, whose rows come from four words.

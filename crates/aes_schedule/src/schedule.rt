@@ -1,16 +1,23 @@
 // The key schedule, as the bytes of its words, over the number of key words nk = 4, 6, 8.
-use crate::words::look_up;
+use crate::words::first;
+use crate::words::fourth;
+use crate::words::join;
+use crate::words::second;
 use crate::words::split;
+use crate::words::third;
 use crate::words::word_at;
 ghost use mathlib.Core.Path.{_≡_};
 ghost use mathlib.Core.Bool.{true};
-ghost use Prim.Native.Nat.{_+_, _-_, _*_, _/_, _≤_, _<_};
-ghost use lib.ListN.{length};
-ghost use Rattle.octets.specs.Strings.{table, over};
+ghost use mathlib.Core.List.{_++_};
+ghost use Prim.Native.Nat.{_+_, _*_, _/_, _≤_, _<_};
+ghost use lib.ListN.{length, take, drop};
+ghost use Rattle.octets.specs.Strings.{over};
+ghost use Rattle.octets.specs.Xor.{xors};
 ghost use Rattle.field.specs.SBox.{sBox};
-ghost use Rattle.fips197.specs.Schedule.{isKey, subWord, rotWord, power, temp, nextWord, keyExpansion};
+ghost use Rattle.fips197.specs.Schedule.{isKey, subWord, rotWord, power, temp, keyExpansion};
+ghost use Rattle.aes_schedule.specs.Boxes.{Boxes};
 ghost use Rattle.aes_schedule.specs.Place.{Place};
-ghost use Rattle.aes_schedule.specs.Words.{bytesOf};
+ghost use Rattle.aes_schedule.specs.Words.{bytesOf, wordAt};
 
 // The powers of x in the byte field that the words Rcon begin with.
 const POWERS: [u8; 10] = [0x01, 0x02, 0x04, 0x08, 0x10, 0x20, 0x40, 0x80, 0x1b, 0x36];
@@ -28,11 +35,24 @@ fn rot_word(x: u32) -> u32
     x / 256 + x % 256 * 16777216
 }
 
-fn sub_word(s: &[u8], x: u32) -> u32
-    requires { ⌜ now s ≡ table sBox 256 ⌝ }
+// The S-box of a byte: the second byte of its entry, of eight bytes, in the round table.
+pub fn boxed(t: &[u8], x: u8) -> u8
+    requires { ⌜ Boxes (now t) ⌝ }
+    ensures { λ r. ⌜ r ≡ sBox x ⌝ }
+{
+    t[8 * x as usize + 1]
+}
+
+fn sub_word(t: &[u8], x: u32) -> u32
+    requires { ⌜ Boxes (now t) ⌝ }
     ensures { λ r. ⌜ bytesOf r ≡ subWord (bytesOf x) ⌝ }
 {
-    look_up(s, x, x, x, x)
+    join(
+        boxed(t, first(x)),
+        boxed(t, second(x)),
+        boxed(t, third(x)),
+        boxed(t, fourth(x)),
+    )
 }
 
 // i / nk, by the reciprocal r of nk in parts of 256: a division for each word took a tenth of a
@@ -45,50 +65,57 @@ fn quotient(nk: usize, r: usize, i: usize) -> usize
 }
 
 // What goes into word i beside word i - nk, from word i - 1.
-fn step_word(s: &[u8], nk: usize, r: usize, i: usize, x: u32) -> u32
-    requires { ⌜ now s ≡ table sBox 256 ⌝ }
+fn step_word(t: &[u8], nk: usize, r: usize, i: usize, x: u32) -> u32
+    requires { ⌜ Boxes (now t) ⌝ }
     requires { ⌜ Place nk r i ⌝ }
     ensures { λ r. ⌜ bytesOf r ≡ temp nk i (bytesOf x) ⌝ }
 {
     let q = quotient(nk, r, i);
     let k = i - nk * q;
     if k == 0 {
-        let y = sub_word(s, rot_word(x));
+        let y = sub_word(t, rot_word(x));
         return y ^ power_of(q - 1) as u32;
     }
     if nk > 6 {
         if k == 4 {
-            return sub_word(s, x);
+            return sub_word(t, x);
         }
     }
     x
 }
 
-fn next_word(w: &[u8], s: &[u8], nk: usize, r: usize, i: usize) -> u32
-    requires { ⌜ now s ≡ table sBox 256 ⌝ }
-    requires { ⌜ Place nk r i ⌝ }
-    requires { ⌜ 4 * i ≤ length (now w) ⌝ }
-    ensures { λ r. ⌜ bytesOf r ≡ nextWord nk i (now (w .entry)) ⌝ }
+// The word after the key's words and m more, from the word before it; the schedule stands at a
+// place of t.
+fn next_word(t: &[u8], at: usize, nk: usize, r: usize, m: usize, x: u32) -> u32
+    requires { ⌜ Boxes (now t) ⌝ }
+    requires { ⌜ Place nk r (nk + m) ⌝ }
+    requires { ⌜ at + 4 * m + 4 ≤ length (now t) ⌝ }
+    ensures { λ r. ⌜ bytesOf r ≡ xors (wordAt (now (t .entry)) (at + 4 * m)) (temp nk (nk + m) (bytesOf x)) ⌝ }
 {
-    let x = word_at(w, 4 * (i - 1));
-    let y = step_word(s, nk, r, i, x);
-    word_at(w, 4 * (i - nk)) ^ y
+    word_at(t, at + 4 * m) ^ step_word(t, nk, r, nk + m, x)
 }
 
-// Writes the schedule of a key over the first bytes of w; s is the S-box.
-pub fn expand(key: &[u8], s: &[u8], w: &mut [u8])
+// Writes the schedule of a key at a place of a context, behind its round table. S is read from the
+// table, since a constant would be stored at every call, and the last word is carried, since a word
+// that was just stored is slow to read back.
+pub fn expand(key: &[u8], at: usize, ctx: &mut [u8])
     requires { ⌜ isKey (now key) ≡ true ⌝ }
-    requires { ⌜ now s ≡ table sBox 256 ⌝ }
-    requires { ⌜ 240 ≤ length (now w) ⌝ }
-    ensures { λ _. ⌜ now (w .exit) ≡ over (keyExpansion (now (key .entry))) (now (w .entry)) ⌝ }
+    requires { ⌜ Boxes (now ctx) ⌝ }
+    requires { ⌜ 2048 ≤ at ⌝ }
+    requires { ⌜ at + 240 ≤ length (now ctx) ⌝ }
+    ensures { λ _. ⌜
+        now (ctx .exit) ≡ take at (now (ctx .entry)) ++ over (keyExpansion (now (key .entry))) (drop at (now (ctx .entry)))
+        ⌝ }
 {
     let nk = key.len() / 4;
     let r = 255 / nk + 1;
-    octets::put(w, key);
+    octets::put(&mut ctx[at..], key);
+    let mut x = word_at(key, 4 * (nk - 1));
     let mut m = 0;
     while m < 3 * nk + 28 {
-        let t = split(next_word(w, s, nk, r, nk + m));
-        octets::put(&mut w[4 * (nk + m)..], &t);
+        let next = next_word(ctx, at, nk, r, m, x);
+        octets::put(&mut ctx[at + 4 * (nk + m)..], &split(next));
+        x = next;
         m += 1;
     }
 }

@@ -10,15 +10,15 @@ use native.Mathlib.Omega.{arith}
 use lib.Bits.{bitXor}
 use lib.Dec.{eqb}
 use borrow.Author.Tests.{ne-eqb}
-use lib.ListN.{length, take, drop, getD, replicate, length-append, take-append-drop, length-take, length-drop, List·getD-append}
+use lib.ListN.{length, take, drop, getD, replicate, length-append, length-take, length-drop}
 use lib.Pow.{pow-mono}
-use lib.Seq.{take-all, take-at, drop-at, getD-append-add}
+use lib.Seq.{take-at, drop-at}
 use Rattle.octets.specs.Strings.{Bytes, Octets}
 use Rattle.octets.specs.Xor.{xors}
 use Rattle.octets.specs.Numbers.{number, digits}
 use Rattle.octets.proofs.Strings.{bytes-append, bytes-take, bytes-drop, bytes-replicate}
 use Rattle.octets.proofs.Xor.{length-xors, bytes-xors}
-use Rattle.octets.proofs.Numbers.{length-digits, bytes-digits, number-digits, digits-xor, power-two, getD-digits, number-more, digits-number}
+use Rattle.octets.proofs.Numbers.{length-digits, bytes-digits, number-digits, digits-xor, power-two, number-more}
 use Rattle.cba_mode.specs.Offsets.{doubled, two, three, four, five, six, times, F, start, offset, pad}
 
 -- ---- lengths and bytes
@@ -111,25 +111,6 @@ pub times-other : (p : ℕ) (A : List ℕ) → (p ≡ 2 → ⊥) → (p ≡ 3 �
 unfolding times
 times-other p A a b c d e = rw (ne-eqb p 2 a, ne-eqb p 3 b, ne-eqb p 4 c, ne-eqb p 5 d, ne-eqb p 6 e)
 
--- ---- a block from its halves, and back
-
-pub pair-byte : (a b i : ℕ) → i < 8 → a / 2 ^ (56 - 8 * i) % 256 ≡ getD (digits 8 a ++ digits 8 b) i 0
-pair-byte a b i h =
-    ap (λ (k : ℕ). a / k % 256) (ap (λ (k : ℕ). 2 ^ k) {x = 56 - 8 * i} {y = 8 * (8 - suc i)} (omega arith) ∙ sym (power-two (8 - suc i)))
-    ∙ sym (getD-digits 8 a i h)
-    ∙ sym (List·getD-append (digits 8 a) (digits 8 b) 0 i (rw length-digits h))
-
-pub pair-second : (a b i : ℕ) → 8 ≤ i → i < 16 → b / 2 ^ (120 - 8 * i) % 256 ≡ getD (digits 8 a ++ digits 8 b) i 0
-pair-second a b i h k =
-    ap (λ (k : ℕ). b / k % 256) (ap (λ (k : ℕ). 2 ^ k) {x = 120 - 8 * i} {y = 8 * (8 - suc (i - 8))} (omega arith) ∙ sym (power-two (8 - suc (i - 8))))
-    ∙ sym (getD-digits 8 b (i - 8) (omega arith))
-    ∙ sym (ap (λ (j : ℕ). getD (digits 8 a ++ digits 8 b) j 0) {x = i} {y = length (digits 8 a) + (i - 8)} (omega (arith, length-digits 8 a))
-    ∙ getD-append-add (digits 8 a) (digits 8 b) (i - 8) 0)
-
--- two halves that were read off a block
-pub halves-back : (Δ : List ℕ) (x y : ℕ) → length Δ ≡ 16 → digits 8 x ≡ take 8 (drop 0 Δ) → digits 8 y ≡ take 8 (drop 8 Δ) → digits 8 x ++ digits 8 y ≡ Δ
-halves-back Δ x y l a b = ap₂ _++_ a (b ∙ take-all 8 (drop 8 Δ) (simp length-drop (omega arith))) ∙ take-append-drop 8 Δ
-
 -- F on the two halves
 pub F-halves : (p q x y u v : ℕ) → digits 8 u ≡ times p (digits 8 x) → digits 8 v ≡ times q (digits 8 y) → digits 8 u ++ digits 8 v ≡ F p q (digits 8 x ++ digits 8 y)
 unfolding F
@@ -137,7 +118,7 @@ F-halves p q x y u v a b =
     let n : length (digits 8 x) ≡ 8 = length-digits 8 x in
     ap₂ _++_ (a ∙ ap (times p) (sym (take-at (digits 8 x) (digits 8 y) 8 n))) (b ∙ ap (times q) (sym (drop-at (digits 8 x) (digits 8 y) 8 n)))
 
--- ---- a half read byte by byte
+-- ---- a number read byte by byte
 
 -- x is the number of the first i bytes of t
 pub record Read (t : List ℕ) (i x : ℕ) : Type 0 where
@@ -159,14 +140,6 @@ read-turn {t} {i} {x} y v h l e b =
       so-far = ap₂ (λ (p q : ℕ). p * 256 + q) (v .so-far) e ∙ sym (number-more t i l);
       below = rw (add-one i, pow-suc 256 i) (omega (arith, v .below));
     }
-
-pub read-all : {t : List ℕ} {i x : ℕ} → Read t i x → 8 ≤ i → 8 ≤ length t → Bytes t → digits 8 x ≡ take 8 t
-read-all {t} {i} {x} v h l b =
-    let e : i ≡ 8 = omega (arith, v .within) in
-    let n : length (take 8 t) ≡ 8 = length-take 8 t ∙ omega arith in
-    ap (digits 8) (v .so-far ∙ ap (λ (k : ℕ). number (take k t)) e)
-    ∙ ap (λ (k : ℕ). digits k (number (take 8 t))) (sym n)
-    ∙ digits-number (take 8 t) (bytes-take 8 t b)
 
 -- F_{6,6}(Δ) = F_{3,3}(F_{2,2}(Δ)): what DEC writes in one step, ENC takes in two
 pub F-six : {Δ : List ℕ} → Octets 16 Δ → F 6 6 Δ ≡ F 3 3 (F 2 2 Δ)

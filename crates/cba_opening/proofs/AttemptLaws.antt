@@ -10,12 +10,14 @@ use lib.Seq.{take-all, take-at, drop-at, take-add, take-take}
 use Rattle.octets.specs.Strings.{over, eqs}
 use Rattle.octets.specs.Xor.{xors}
 use Rattle.octets.proofs.Xor.{length-xors, take-xors, drop-xors}
+use Rattle.aes_schedule.specs.Words.{blockOf}
+use Rattle.cba_steps.specs.Halves.{halvesOf}
 use Rattle.cba_mode.specs.Sets.{tagBytes}
 use Rattle.cba_mode.specs.Offsets.{F, offset, lastBytes, butLast}
 use Rattle.cba_mode.specs.Seal.{checksum, cipherBlocks, lastBlock, separateTag}
 use Rattle.cba_mode.specs.Open.{Attempt, Tried, verified, after, fromBlocks, joinedPlain, joinedRest, joinedAttempt, separateAttempt}
 use Rattle.cba_mode.proofs.Undoing.{plain-cipher}
-use Rattle.cba_sealing.specs.declared.pieces.Running.{Running}
+use Rattle.cba_sealing.specs.declared.blocks.Running.{Running}
 use Rattle.cba_sealing.specs.Calls.{Passed, tagBlock}
 use Rattle.cba_opening.specs.Calls.{endAs}
 use Rattle.octets.proofs.Parts.{then, to-end, rest-size, size-of}
@@ -126,13 +128,13 @@ module _ (E D : List ℕ → List ℕ) where
   pub blocks-turn : (end : List ℕ → List ℕ → List ℕ → Attempt) (t : ℕ) (Δ C d out w : List ℕ) (s : Running) (k : ℕ) (r : Bool) →
       let rest = take (length C - 16 * k) (drop (16 * k) C) in
       16 * k + t ≤ length C → length C ≤ length d + t → length out ≡ length d → Passed D (checksum (cipherBlocks D Δ C k) k) Δ C d k s out →
-      Tried (end (s .offset) (s .sum) rest) (length rest - t) r (take (length out - 16 * k) (drop (16 * k) out)) w →
+      Tried (end (halvesOf (s .offset)) (blockOf (s .sum)) rest) (length rest - t) r (take (length out - 16 * k) (drop (16 * k) out)) w →
       length w ≡ length (take (length out - 16 * k) (drop (16 * k) out)) →
       Tried (fromBlocks E D end Δ C k) (length C - t) r d (take (16 * k) out ++ (w ++ drop (length out - 16 * k) (drop (16 * k) out)))
   unfolding fromBlocks
   blocks-turn end t Δ C d out w s k r h hd lo v tried lw =
       let Ms = cipherBlocks D Δ C k in
       let rest = take (length C - 16 * k) (drop (16 * k) C) in
-      let same : end (s .offset) (s .sum) rest ≡ end (offset Δ k) (checksum Ms k) (drop (16 * k) C) = rw (v .offset-is, v .sum-is, to-end C (16 * k)) refl in
+      let same : end (halvesOf (s .offset)) (blockOf (s .sum)) rest ≡ end (offset Δ k) (checksum Ms k) (drop (16 * k) C) = rw (v .offset-is, v .sum-is, to-end C (16 * k)) refl in
       rw (plain-cipher E D Δ C k, ← same)
-      (after-turn (end (s .offset) (s .sum) rest) Ms d out w (16 * k) (length rest - t) (length C - t) r (v .written) lo (rest-end C (16 * k) t h) (omega arith) tried lw)
+      (after-turn (end (halvesOf (s .offset)) (blockOf (s .sum)) rest) Ms d out w (16 * k) (length rest - t) (length C - t) r (v .written) lo (rest-end C (16 * k) t h) (omega arith) tried lw)

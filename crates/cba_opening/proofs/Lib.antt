@@ -1,3 +1,2 @@
-pub mod BlockLaws
 pub mod AttemptLaws
 pub mod OpenForms

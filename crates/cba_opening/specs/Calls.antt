@@ -7,7 +7,7 @@ use mathlib.Core.List.{List, _++_}
 use Prim.Native.Nat.{ℕ, _+_, _-_, _*_, _≤_}
 use lib.ListN.{length, drop}
 use Rattle.octets.specs.Strings.{eqs}
-use Rattle.octets.specs.Xor.{xors}
+use Rattle.aes_schedule.specs.Words.{blockOf}
 use Rattle.fips197.specs.Cipher.{cipher, invCipher}
 use Rattle.cba_mode.specs.Sets.{tagBytes}
 use Rattle.cba_mode.specs.Forms.{openForm}
@@ -16,8 +16,9 @@ use Rattle.cba_mode.specs.Seal.{checksum, cipherBlocks}
 use Rattle.cba_mode.specs.Open.{Attempt, Tried, Answered, fromBlocks, joinedRest, joinedAttempt, separateAttempt, attempt, openWith}
 use Rattle.cba_steps.specs.declared.parameters.Parameters.{Parameters}
 use Rattle.cba_steps.specs.declared.endings.Ending.{Ending}
-use Rattle.cba_sealing.specs.declared.pieces.Running.{Running}
-use Rattle.cba_sealing.specs.Calls.{Given, Passed, firstBytes, dataTag}
+use Rattle.cba_steps.specs.Halves.{halvesOf}
+use Rattle.cba_sealing.specs.declared.blocks.Running.{Running}
+use Rattle.cba_sealing.specs.Calls.{Given, summed, Passed, firstBytes, dataTag}
 
 -- parameters that fit, a nonce, a whole tag, and room for the message of C
 pub record Opens (p : Parameters) (N C d : List ℕ) : Type 0 where
@@ -25,13 +26,16 @@ pub record Opens (p : Parameters) (N C d : List ℕ) : Type 0 where
   pub least : tagBytes (p .tau) ≤ length C
   pub room : length C ≤ length d + tagBytes (p .tau)
 
--- D(C ⊕ Δ) ⊕ Δ
-abbrev pub throughD : List ℕ → List ℕ → List ℕ → List ℕ
-throughD key Δ C = xors (invCipher key (xors C Δ)) Δ
-
 -- M_1 .. M_k, which D makes as E makes C_1 .. C_k, and their sum
 abbrev pub OpenedBlocks : List ℕ → List ℕ → List ℕ → List ℕ → ℕ → Running → List ℕ → Type 0
 OpenedBlocks key Δ C d k r out = Passed (invCipher key) (checksum (cipherBlocks (invCipher key) Δ C k) k) Δ C d k r out
+
+-- the first n blocks of C, after those that left s
+abbrev pub OpenedMore : List ℕ → Running → List ℕ → List ℕ → ℕ → Running → List ℕ → Type 0
+OpenedMore key s C d n r out =
+    let D = invCipher key in
+    let Δ = halvesOf (s .offset) in
+    Passed D (summed (blockOf (s .sum)) (cipherBlocks D Δ C n) n) Δ C d n r out
 
 -- M_m of the joined form, and whether T′ is T
 abbrev pub OpenedRest : List ℕ → List ℕ → List ℕ → List ℕ → List ℕ → List ℕ → Bool → List ℕ → Type 0
@@ -46,7 +50,7 @@ endAs false E D Tag = separateAttempt E D (8 * length Tag) Tag
 
 abbrev pub OpenedEnd : Bool → List ℕ → List ℕ → Running → List ℕ → List ℕ → Bool → List ℕ → Type 0
 OpenedEnd j key Tag s rest d r out =
-    Tried (endAs j (cipher key) (invCipher key) Tag (s .offset) (s .sum) rest) (length rest - length Tag) r d out
+    Tried (endAs j (cipher key) (invCipher key) Tag (halvesOf (s .offset)) (blockOf (s .sum)) rest) (length rest - length Tag) r d out
 
 -- what follows C_0
 abbrev pub Tail : List ℕ → Ending → List ℕ → List ℕ → List ℕ → List ℕ → Bool → List ℕ → Type 0

@@ -6,6 +6,7 @@ use cba_sealing::cover;
 use cba_sealing::full_tag;
 use cba_sealing::short_tag;
 use cba_steps::Ending;
+use cba_steps::Halves;
 use cba_steps::Parameters;
 use cba_steps::ending_of;
 ghost use Prim.Native.Nat.{_+_, _-_, _≤_, _<_};
@@ -13,6 +14,7 @@ ghost use lib.ListN.{length};
 ghost use Rattle.aes.specs.Context.{Encrypts};
 ghost use Rattle.cba_mode.specs.Sets.{tagBytes};
 ghost use Rattle.cba_steps.specs.Endings.{Ends};
+ghost use Rattle.cba_steps.specs.Halves.{halvesOf};
 ghost use Rattle.cba_sealing.specs.Calls.{firstBytes};
 ghost use Rattle.cba_opening.specs.Calls.{Opens, Tail, Try, Dec};
 
@@ -47,7 +49,7 @@ fn tail(
     ctx: &aes::Context,
     e: Ending,
     tag: &[u8],
-    offset: [u8; 16],
+    offset: Halves,
     rest: &[u8],
     out: &mut [u8],
 ) -> bool
@@ -55,7 +57,7 @@ fn tail(
     requires { ⌜ Ends (e .joined) (e .blocks) (length (now tag)) (length (now rest) - length (now tag)) ⌝ }
     requires { ⌜ length (now tag) ≤ 16 ⌝ }
     requires { ⌜ length (now rest) ≤ length (now out) + length (now tag) ⌝ }
-    ensures { λ r. ⌜ Tail (now (key .entry)) e (now (tag .entry)) offset (now (rest .entry)) (now (out .entry)) r (now (out .exit)) ⌝ }
+    ensures { λ r. ⌜ Tail (now (key .entry)) e (now (tag .entry)) (halvesOf offset) (now (rest .entry)) (now (out .entry)) r (now (out .exit)) ⌝ }
 {
     let k = e.blocks;
     let s = open_blocks(key, ctx, rest, k, offset, out);

@@ -1,8 +1,10 @@
 // The joined form's end: the last block and the tag come out of one block.
+use aes_schedule::write;
 use cba_sealing::Running;
 use cba_sealing::mask;
+use cba_steps::Halves;
 use cba_steps::pad;
-use cba_steps::step;
+use cba_steps::step_block;
 ghost use mathlib.Core.Path.{_≡_};
 ghost use mathlib.Core.Bool.{true};
 ghost use Prim.Native.Nat.{_+_, _≤_};
@@ -12,6 +14,7 @@ ghost use Rattle.fips197.specs.Cipher.{cipher, invCipher};
 ghost use Rattle.aes.specs.Context.{Encrypts};
 ghost use Rattle.cba_mode.specs.Offsets.{lastBytes};
 ghost use Rattle.cba_mode.specs.Open.{joinedPlain};
+ghost use Rattle.cba_steps.specs.Halves.{halvesOf};
 ghost use Rattle.cba_sealing.specs.Calls.{maskedBy};
 ghost use Rattle.cba_opening.specs.Calls.{OpenedRest, OpenedEnd};
 
@@ -19,15 +22,15 @@ ghost use Rattle.cba_opening.specs.Calls.{OpenedRest, OpenedEnd};
 fn joined_plain(
     key: &[u8],
     ctx: &aes::Context,
-    offset: [u8; 16],
+    offset: Halves,
     sum: [u8; 16],
     c: &[u8],
     last: [u8; 16],
 ) -> [u8; 16]
     requires { ⌜ Encrypts (now key) (now ctx) ⌝ }
-    ensures { λ r. ⌜ r ≡ joinedPlain (cipher (now (key .entry))) (invCipher (now (key .entry))) offset sum (now (c .entry)) last ⌝ }
+    ensures { λ r. ⌜ r ≡ joinedPlain (cipher (now (key .entry))) (invCipher (now (key .entry))) (halvesOf offset) sum (now (c .entry)) last ⌝ }
 {
-    let x = octets::xor_block(pad(c), step(6, 6, offset));
+    let x = octets::xor_block(pad(c), step_block(6, 6, offset));
     octets::xor_block(octets::xor_block(last, sum), aes::encrypt(key, ctx, x))
 }
 
@@ -49,7 +52,7 @@ fn joined_rest(
     key: &[u8],
     ctx: &aes::Context,
     tag: &[u8],
-    offset: [u8; 16],
+    offset: Halves,
     m: [u8; 16],
     c: &[u8],
     out: &mut [u8],
@@ -58,9 +61,9 @@ fn joined_rest(
     requires { ⌜ length (now tag) ≤ length (now c) ⌝ }
     requires { ⌜ length (now c) ≤ 16 ⌝ }
     requires { ⌜ length (now c) ≤ length (now out) + length (now tag) ⌝ }
-    ensures { λ r. ⌜ OpenedRest (now (key .entry)) (now (tag .entry)) offset m (now (c .entry)) (now (out .entry)) r (now (out .exit)) ⌝ }
+    ensures { λ r. ⌜ OpenedRest (now (key .entry)) (now (tag .entry)) (halvesOf offset) m (now (c .entry)) (now (out .entry)) r (now (out .exit)) ⌝ }
 {
-    let e = aes::encrypt(key, ctx, octets::xor_block(m, step(2, 2, offset)));
+    let e = aes::encrypt(key, ctx, octets::xor_block(m, step_block(2, 2, offset)));
     mask(e, 0, &c[..c.len() - tag.len()], out);
     joined_tag(e, c, tag)
 }
@@ -85,7 +88,7 @@ pub fn joined_end(
     let n = rest.len() - 16;
     let last = octets::first_block(&rest[n..]);
     let c = &rest[..n];
-    let m = joined_plain(key, ctx, offset, sum, c, last);
+    let m = joined_plain(key, ctx, offset, write(sum), c, last);
     octets::put(out, &m);
     joined_rest(key, ctx, tag, offset, m, c, &mut out[16..])
 }

@@ -1,4 +1,5 @@
 // The separate form's end: a last block of its own length, and the tag after it.
+use aes_schedule::write;
 use cba_sealing::Running;
 use cba_sealing::last_block;
 use cba_sealing::tag_block;
@@ -28,6 +29,6 @@ pub fn separate_end(
     let sum = s.sum;
     let n = rest.len() - tag.len();
     last_block(key, ctx, tag, offset, &rest[..n], out);
-    let e = tag_block(key, ctx, tag, offset, sum, &out[..n]);
+    let e = tag_block(key, ctx, tag, offset, write(sum), &out[..n]);
     octets::same(&rest[n..], &e[..tag.len()])
 }

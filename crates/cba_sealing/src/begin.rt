@@ -2,6 +2,7 @@
 use crate::pieces::mask;
 use crate::pieces::nonce_block;
 use crate::pieces::right_aligned;
+use cba_steps::Halves;
 use cba_steps::Parameters;
 use cba_steps::start;
 ghost use mathlib.Core.Path.{_≡_};
@@ -14,7 +15,7 @@ ghost use Rattle.cba_sealing.specs.Calls.{Given, Covered};
 
 // The first offset, and T_A with zeros before it.
 pub struct Begun {
-    pub offset: [u8; 16],
+    pub offset: Halves,
     pub data: [u8; 16],
 }
 

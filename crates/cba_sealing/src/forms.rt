@@ -1,14 +1,15 @@
 // The forms of sealing, and the choice between them.
 use crate::begin::cover;
 use crate::begin::full_tag;
+use crate::blocks::full_blocks;
 use crate::joined::joined_end;
-use crate::pieces::full_blocks;
 use crate::separate::separate_end;
 use cba_steps::Ending;
+use cba_steps::Halves;
 use cba_steps::Parameters;
 use cba_steps::ending_of;
 use cba_steps::pad;
-use cba_steps::step;
+use cba_steps::step_block;
 ghost use mathlib.Core.Path.{_≡_};
 ghost use Prim.Native.Nat.{_+_, _≤_, _<_};
 ghost use lib.ListN.{length};
@@ -17,6 +18,7 @@ ghost use Rattle.fips197.specs.Cipher.{cipher};
 ghost use Rattle.aes.specs.Context.{Encrypts};
 ghost use Rattle.cba_mode.specs.Offsets.{F, pad};
 ghost use Rattle.cba_steps.specs.Endings.{Ends};
+ghost use Rattle.cba_steps.specs.Halves.{halvesOf};
 ghost use Rattle.cba_sealing.specs.Calls.{Seals, firstBytes, Tail, Enc};
 
 // The block whose first t bytes are C_1 of the short form.
@@ -24,14 +26,14 @@ pub fn short_tag(
     key: &[u8],
     ctx: &aes::Context,
     data_tag: [u8; 16],
-    offset: [u8; 16],
+    offset: Halves,
     c: &[u8],
 ) -> [u8; 16]
     requires { ⌜ Encrypts (now key) (now ctx) ⌝ }
-    ensures { λ r. ⌜ r ≡ cipher (now (key .entry)) (xors (xors data_tag (pad (now (c .entry)))) (F 3 3 offset)) ⌝ }
+    ensures { λ r. ⌜ r ≡ cipher (now (key .entry)) (xors (xors data_tag (pad (now (c .entry)))) (F 3 3 (halvesOf offset))) ⌝ }
 {
     let x = octets::xor_block(data_tag, pad(c));
-    aes::encrypt(key, ctx, octets::xor_block(x, step(3, 3, offset)))
+    aes::encrypt(key, ctx, octets::xor_block(x, step_block(3, 3, offset)))
 }
 
 // At most ℓ bits.
@@ -63,7 +65,7 @@ fn tail(
     ctx: &aes::Context,
     e: Ending,
     tag: &[u8],
-    offset: [u8; 16],
+    offset: Halves,
     message: &[u8],
     out: &mut [u8],
 )
@@ -71,7 +73,7 @@ fn tail(
     requires { ⌜ Ends (e .joined) (e .blocks) (length (now tag)) (length (now message)) ⌝ }
     requires { ⌜ length (now tag) ≤ 16 ⌝ }
     requires { ⌜ length (now message) + length (now tag) ≤ length (now out) ⌝ }
-    ensures { λ _. ⌜ Tail (now (key .entry)) e (now (tag .entry)) offset (now (message .entry)) (now (out .entry)) (now (out .exit)) ⌝ }
+    ensures { λ _. ⌜ Tail (now (key .entry)) e (now (tag .entry)) (halvesOf offset) (now (message .entry)) (now (out .entry)) (now (out .exit)) ⌝ }
 {
     let k = e.blocks;
     let s = full_blocks(key, ctx, message, k, offset, out);

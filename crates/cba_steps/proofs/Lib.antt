@@ -1,2 +1,3 @@
+pub mod WordLaws
 pub mod StartLaws
 pub mod DataLaws

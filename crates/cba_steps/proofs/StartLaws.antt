@@ -6,14 +6,13 @@ use Prim.Native.Nat.{ℕ, zero, suc, _+_, _-_, _*_, _/_, _%_, _^_, _<_}
 use native.Mathlib.Nat.{zero-mul, mul-comm, mul-assoc, add-mul, mod-lt, mod-eq-of-lt, div-add-mod', div-lt-iff-lt-mul, mul-add-div-right, mul-add-mod-self-right, mul-lt-mul-of-pos-right}
 use native.Mathlib.Omega.{arith}
 use lib.Arith.{digits-lt}
-use lib.ListN.{length, take, drop, getD, replicate, length-append, List·getD-append, getD-replicate}
+use lib.ListN.{length, getD, replicate, length-append, List·getD-append, getD-replicate}
 use lib.Seq.{getD-append-add, getD-append-seam}
 use Rattle.octets.specs.Strings.{table}
 use Rattle.octets.specs.Numbers.{number, digits}
 use Rattle.octets.proofs.Strings.{bytes-append, table-take}
 use Rattle.octets.proofs.Numbers.{length-digits, bytes-digits, number-digits, digits-number, number-append}
 use Rattle.cba_mode.specs.Offsets.{F, ones, rotated, start, pad}
-use Rattle.cba_mode.proofs.OffsetLaws.{halves-back}
 
 -- ---- two halves as one number
 
@@ -29,10 +28,6 @@ digits-pair u v h k =
     let n : length s ≡ 16 = length-append (digits 8 u) (digits 8 v) ∙ omega (arith, length-digits 8 u, length-digits 8 v) in
     sym (digits-number s (bytes-append (digits 8 u) (digits 8 v) (bytes-digits 8 u) (bytes-digits 8 v)))
     ∙ ap₂ digits n (number-pair u v h k)
-
-pub number-halves : (R : List ℕ) (a b : ℕ) → length R ≡ 16 → a < 2 ^ 64 → b < 2 ^ 64 →
-    digits 8 a ≡ take 8 (drop 0 R) → digits 8 b ≡ take 8 (drop 8 R) → a * 2 ^ 64 + b ≡ number R
-number-halves R a b l h k p q = sym (number-pair a b h k) ∙ ap number (halves-back R a b l p q)
 
 -- ---- turning two halves, where P Q = 2^64
 
@@ -75,10 +70,12 @@ module _ (P Q : ℕ) (h : P * Q ≡ 2 ^ 64) where
 
 -- ---- the first offset: w is n, one of 0, 32, 64
 
-pub start-by : (R : List ℕ) (n : ℕ) {w : ℕ} (s z : List ℕ) (Y : ℕ) → w ≡ n → s ≡ F 2 2 z → z ≡ digits 16 (rotated (n / 2 + 1) Y) → Y ≡ ones n (number R) → s ≡ start R w
+pub start-by : (n A B : ℕ) {w Y : ℕ} {R s z : List ℕ} → A < 2 ^ 64 → B < 2 ^ 64 → digits 8 A ++ digits 8 B ≡ R →
+    w ≡ n → s ≡ F 2 2 z → z ≡ digits 16 (rotated (n / 2 + 1) Y) → Y ≡ ones n (A * 2 ^ 64 + B) → s ≡ start R w
 unfolding start
-start-by R n s z Y e p q r =
-    p ∙ ap (F 2 2) (q ∙ ap (λ (y : ℕ). digits 16 (rotated (n / 2 + 1) y)) r) ∙ ap (start R) (sym e)
+start-by n A B {R = R} h k i e p q r =
+    let y = r ∙ ap (ones n) (sym (number-pair A B h k) ∙ ap number i) in
+    p ∙ ap (F 2 2) (q ∙ ap (λ (y : ℕ). digits 16 (rotated (n / 2 + 1) y)) y) ∙ ap (start R) (sym e)
 
 -- the ones that follow the first 126 − w bits of A 2^64 + B
 pub ones-none : (A B : ℕ) → A * 2 ^ 64 + (B / 4 * 4 + 3) ≡ ones 0 (A * 2 ^ 64 + B)

@@ -1,4 +1,4 @@
--- An offset as two numbers, one for each half, as the loops over the full blocks have it.
+-- An offset as two numbers, one for each half, as the code has it.
 -- Assumes nothing.
 use mathlib.Core.List.{List, _++_}
 use Prim.Native.Nat.{ℕ}

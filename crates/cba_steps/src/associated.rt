@@ -2,9 +2,8 @@
 use crate::offsets::Halves;
 use crate::offsets::doubled;
 use crate::offsets::pad;
-use crate::offsets::split;
 use crate::offsets::start;
-use crate::offsets::step;
+use crate::offsets::step_block;
 use crate::offsets::whole;
 use crate::parameters::Parameters;
 ghost use mathlib.Core.Path.{_≡_};
@@ -16,6 +15,7 @@ ghost use Rattle.octets.specs.Xor.{xors};
 ghost use Rattle.fips197.specs.Cipher.{cipher};
 ghost use Rattle.aes.specs.Context.{Encrypts};
 ghost use Rattle.cba_mode.specs.Data.{withRest, dataSum, dataHash};
+ghost use Rattle.cba_steps.specs.Halves.{halvesOf};
 ghost use Rattle.cba_steps.specs.Walk.{depth};
 
 // The sum with E(block ⊕ offset) added.
@@ -36,20 +36,14 @@ fn added(
 }
 
 // The sum after a rest under 16 bytes, which is padded where it is not empty.
-fn with_rest(
-    key: &[u8],
-    ctx: &aes::Context,
-    sum: [u8; 16],
-    offset: [u8; 16],
-    rest: &[u8],
-) -> [u8; 16]
+fn with_rest(key: &[u8], ctx: &aes::Context, sum: [u8; 16], offset: Halves, rest: &[u8]) -> [u8; 16]
     requires { ⌜ Encrypts (now key) (now ctx) ⌝ }
-    ensures { λ r. ⌜ r ≡ withRest (cipher (now (key .entry))) sum offset (now (rest .entry)) ⌝ }
+    ensures { λ r. ⌜ r ≡ withRest (cipher (now (key .entry))) sum (halvesOf offset) (now (rest .entry)) ⌝ }
 {
     if rest.len() == 0 {
         return sum;
     }
-    added(key, ctx, sum, pad(rest), step(3, 3, offset))
+    added(key, ctx, sum, pad(rest), step_block(3, 3, offset))
 }
 
 // The sum after all of the data, a call for each full block. `depth`, the calls that are still to
@@ -62,7 +56,7 @@ fn walk(key: &[u8], ctx: &aes::Context, sum: [u8; 16], a: u64, b: u64, rest: &[u
 {
     let h = Halves { a: a, b: b };
     if rest.len() < 16 {
-        return with_rest(key, ctx, sum, whole(h), rest);
+        return with_rest(key, ctx, sum, h, rest);
     }
     let next = doubled(h);
     let more = added(key, ctx, sum, octets::first_block(rest), whole(next));
@@ -80,6 +74,6 @@ pub fn data_hash(key: &[u8], ctx: &aes::Context, p: Parameters, ad: &[u8]) -> [u
     let b = p.capacity;
     let first = [tau, b, 0, 0, 0, 0, 0, 0, 0, 0, 0, 0, 0, 0, 0, 0];
     let l = aes::encrypt(key, ctx, first);
-    let h = split(start(l, 0));
+    let h = start(l, 0);
     walk(key, ctx, [0; 16], h.a, h.b, ad)
 }

@@ -13,5 +13,7 @@ pub use offsets::pad;
 pub use offsets::split;
 pub use offsets::start;
 pub use offsets::step;
+pub use offsets::step_block;
 pub use offsets::whole;
+pub use offsets::words;
 pub use parameters::Parameters;

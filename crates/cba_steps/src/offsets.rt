@@ -1,11 +1,26 @@
-// Offsets and padding, on blocks by value. A half of an offset is a big-endian number.
+// Offsets and padding. An offset is two big-endian numbers, and becomes a block by way of words.
+use aes_schedule::Words;
+use aes_schedule::first;
+use aes_schedule::fourth;
+use aes_schedule::join;
+use aes_schedule::read;
+use aes_schedule::second;
+use aes_schedule::third;
+use aes_schedule::write;
 ghost use mathlib.Core.Path.{_≡_};
 ghost use mathlib.Core.List.{_++_, _∷_};
 ghost use Prim.Native.Nat.{_+_, _*_, _/_, _%_, _^_, _≤_, _<_};
-ghost use lib.ListN.{take, drop, getD, replicate};
+ghost use lib.ListN.{getD, replicate};
 ghost use Rattle.octets.specs.Numbers.{digits};
+ghost use Rattle.aes_schedule.specs.Words.{bytesOf, blockOf};
 ghost use Rattle.cba_mode.specs.Offsets.{two, three, times, F, start, pad};
 ghost use Rattle.cba_steps.specs.Halves.{halvesOf};
+
+// An offset as its halves, so that a step turns no bytes into numbers.
+pub struct Halves {
+    pub a: u64,
+    pub b: u64,
+}
 
 // 2·A, with no branch.
 fn double(x: u64) -> u64
@@ -43,64 +58,13 @@ fn multiple(p: u8, x: u64) -> u64
     x
 }
 
-// The half of a block that begins at a place, as a number.
-fn half(s: [u8; 16], at: usize) -> u64
-    requires { ⌜ at ≤ 8 ⌝ }
-    ensures { λ r. ⌜ digits 8 r ≡ take 8 (drop at s) ⌝ }
-{
-    let mut x = 0u64;
-    let mut i = 0;
-    while i < 8 {
-        x = x * 256 + (s[at + i] as u64);
-        i += 1;
-    }
-    x
-}
-
-// Byte i of the block with these halves.
-fn byte_of(a: u64, b: u64, i: usize) -> u8
-    requires { ⌜ i < 16 ⌝ }
-    ensures { λ r. ⌜ r ≡ getD (digits 8 a ++ digits 8 b) i 0 ⌝ }
-{
-    if i < 8 {
-        ((a >> (56 - 8 * i)) % 256) as u8
-    } else {
-        ((b >> (120 - 8 * i)) % 256) as u8
-    }
-}
-
-// The block with these halves.
-fn pair(a: u64, b: u64) -> [u8; 16]
-    ensures { λ r. ⌜ r ≡ digits 8 a ++ digits 8 b ⌝ }
-{
-    let mut r = [0u8; 16];
-    let mut i = 0;
-    while i < 16 {
-        r[i] = byte_of(a, b, i);
-        i += 1;
-    }
-    r
-}
-
 // F(p, q).
-pub fn step(p: u8, q: u8, d: [u8; 16]) -> [u8; 16]
-    ensures { λ r. ⌜ r ≡ F p q d ⌝ }
-{
-    pair(multiple(p, half(d, 0)), multiple(q, half(d, 8)))
-}
-
-// An offset as its halves, so that a loop turns no bytes into numbers.
-pub struct Halves {
-    pub a: u64,
-    pub b: u64,
-}
-
-pub fn split(s: [u8; 16]) -> Halves
-    ensures { λ r. ⌜ halvesOf r ≡ s ⌝ }
+pub fn step(p: u8, q: u8, h: Halves) -> Halves
+    ensures { λ r. ⌜ halvesOf r ≡ F p q (halvesOf h) ⌝ }
 {
     Halves {
-        a: half(s, 0),
-        b: half(s, 8),
+        a: multiple(p, h.a),
+        b: multiple(q, h.b),
     }
 }
 
@@ -114,52 +78,104 @@ pub fn doubled(h: Halves) -> Halves
     }
 }
 
+// The word whose bytes are those of x from the highest on. The compiler makes one byte swap of it.
+fn turned(x: u32) -> u32
+    ensures { λ r. ⌜ bytesOf r ≡ digits 4 x ⌝ }
+{
+    join(fourth(x), third(x), second(x), first(x))
+}
+
+// The upper and the lower 32 bits.
+
+fn upper(x: u64) -> u32
+    ensures { λ r. ⌜ r ≡ x / 2 ^ 32 ⌝ }
+{
+    (x / 0x1_0000_0000) as u32
+}
+
+fn lower(x: u64) -> u32
+    ensures { λ r. ⌜ r ≡ x % 2 ^ 32 ⌝ }
+{
+    (x % 0x1_0000_0000) as u32
+}
+
+// An offset as a block: its words, and its bytes.
+
+pub fn words(h: Halves) -> Words
+    ensures { λ r. ⌜ blockOf r ≡ halvesOf h ⌝ }
+{
+    Words {
+        a: turned(upper(h.a)),
+        b: turned(lower(h.a)),
+        c: turned(upper(h.b)),
+        d: turned(lower(h.b)),
+    }
+}
+
 pub fn whole(h: Halves) -> [u8; 16]
     ensures { λ r. ⌜ r ≡ halvesOf h ⌝ }
 {
-    pair(h.a, h.b)
+    write(words(h))
+}
+
+// F(p, q), as a block.
+pub fn step_block(p: u8, q: u8, h: Halves) -> [u8; 16]
+    ensures { λ r. ⌜ r ≡ F p q (halvesOf h) ⌝ }
+{
+    whole(step(p, q, h))
+}
+
+// The half of a block that two of its words are.
+fn half(p: u32, q: u32) -> u64
+    ensures { λ r. ⌜ digits 8 r ≡ bytesOf p ++ bytesOf q ⌝ }
+{
+    (turned(p) as u64) * 0x1_0000_0000 + (turned(q) as u64)
+}
+
+pub fn split(s: [u8; 16]) -> Halves
+    ensures { λ r. ⌜ halvesOf r ≡ s ⌝ }
+{
+    let k = read(s);
+    Halves {
+        a: half(k.a, k.b),
+        b: half(k.c, k.d),
+    }
 }
 
 // Two halves turned right by k bits, where p is 2^k and q is 2^(64 - k).
-fn rotate(a: u64, b: u64, p: u64, q: u64) -> [u8; 16]
+fn rotate(a: u64, b: u64, p: u64, q: u64) -> Halves
     requires { ⌜ p * q ≡ 2 ^ 64 ⌝ }
-    ensures { λ r. ⌜ r ≡ digits 16 ((a * 2 ^ 64 + b) / p + (a * 2 ^ 64 + b) % p * (q * 2 ^ 64)) ⌝ }
+    ensures { λ r. ⌜ halvesOf r ≡ digits 16 ((a * 2 ^ 64 + b) / p + (a * 2 ^ 64 + b) % p * (q * 2 ^ 64)) ⌝ }
 {
-    pair(a / p + b % p * q, b / p + a % p * q)
+    Halves {
+        a: a / p + b % p * q,
+        b: b / p + a % p * q,
+    }
 }
 
 // The first offset, from R or L, where w is ℓ: 0, 32 or 64.
-pub fn start(r: [u8; 16], w: u8) -> [u8; 16]
+pub fn start(r: [u8; 16], w: u8) -> Halves
     requires { ⌜ (w ≤ 64) × (w % 32 ≡ 0) ⌝ }
-    ensures { λ s. ⌜ s ≡ start r w ⌝ }
+    ensures { λ s. ⌜ halvesOf s ≡ start r w ⌝ }
 {
-    let a = half(r, 0);
-    let b = half(r, 8);
+    let h = split(r);
     if w == 0 {
-        return step(2, 2, rotate(a, b / 4 * 4 + 3, 2, 0x8000_0000_0000_0000));
+        return doubled(rotate(h.a, h.b / 4 * 4 + 3, 2, 0x8000_0000_0000_0000));
     }
     if w == 32 {
-        return step(
-            2,
-            2,
-            rotate(
-                a,
-                b / 0x4_0000_0000 * 0x4_0000_0000 + 0x3_ffff_ffff,
-                0x2_0000,
-                0x8000_0000_0000,
-            ),
-        );
+        return doubled(rotate(
+            h.a,
+            h.b / 0x4_0000_0000 * 0x4_0000_0000 + 0x3_ffff_ffff,
+            0x2_0000,
+            0x8000_0000_0000,
+        ));
     }
-    step(
-        2,
-        2,
-        rotate(
-            a / 4 * 4 + 3,
-            0xffff_ffff_ffff_ffff,
-            0x2_0000_0000,
-            0x8000_0000,
-        ),
-    )
+    doubled(rotate(
+        h.a / 4 * 4 + 3,
+        0xffff_ffff_ffff_ffff,
+        0x2_0000_0000,
+        0x8000_0000,
+    ))
 }
 
 // Byte i of a string padded with 80, 00, 00, ..

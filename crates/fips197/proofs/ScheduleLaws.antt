@@ -1,8 +1,8 @@
 -- Laws of the key schedule, over the number of key words.
 -- Assumes nothing.
-use mathlib.Core.Path.{_≡_, refl, ap₂, _∙_}
+use mathlib.Core.Path.{_≡_, refl, _∙_}
 use mathlib.Core.Bool.{Bool, true, false, cond, _||_}
-use mathlib.Core.List.{List, _++_}
+use mathlib.Core.List.{List}
 use Prim.Native.Nat.{ℕ, zero, suc, _+_, _-_, _*_, _/_, _%_, _<_, _≤_}
 use native.Mathlib.Omega.{arith}
 use lib.Dec.{eqb}
@@ -13,7 +13,7 @@ use Rattle.octets.specs.Xor.{xors}
 use Rattle.octets.specs.Blocks.{block}
 use Rattle.octets.proofs.Strings.{bytes-append, bytes-take, bytes-drop, length-table, bytes-table}
 use Rattle.octets.proofs.Xor.{length-xors, bytes-xors}
-use Rattle.octets.proofs.Blocks.{length-block, block-append}
+use Rattle.octets.proofs.Blocks.{length-block}
 use Rattle.field.proofs.Rules.{xtime-byte, sBox-byte}
 use Rattle.fips197.specs.Schedule.{isKey, subWord, rotWord, power, rcon, atStart, atMiddle, temp, nextWord, expanded, keyExpansion}
 
@@ -103,8 +103,3 @@ module _ (nk i : ℕ) (t : List ℕ) where
   pub temp-other : (i % nk ≡ 0 → ⊥) → 6 < nk → (i % nk ≡ 4 → ⊥) → temp nk i t ≡ t
   unfolding temp
   temp-other h p q = rw (ne-eqb (i % nk) 0 h, lt-ltb 6 nk p, ne-eqb (i % nk) 4 q)
-
--- the next word looks only at the words before it
-pub nextWord-append : (nk i : ℕ) (w z : List ℕ) → 0 < nk → nk ≤ i → length w ≡ 4 * i → nextWord nk i (w ++ z) ≡ nextWord nk i w
-nextWord-append nk i w z p h l =
-    ap₂ (λ (a b : List ℕ). xors a (temp nk i b)) (block-append 4 w z (i - nk) (omega arith)) (block-append 4 w z (i - 1) (omega arith))

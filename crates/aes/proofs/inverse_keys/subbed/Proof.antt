@@ -3,6 +3,7 @@
 use mathlib.Core.Path.{_∙_}
 use borrow.Author.Needs.{needs}
 use Rattle.aes_schedule.proofs.WordLaws.{four}
+use Rattle.aes.proofs.TableLaws.{entry-boxes}
 use Rattle.aes.proofs.inverse_keys.subbed.Statement.{statement}
 use Rattle.aes.proofs.inverse_keys.subbed.Tie as tie
 
@@ -14,15 +15,15 @@ subbed-spec =
     tie.close
     (tie.spec
     (λ c. search needs)
-    (λ c κs. search needs)
+    (λ c κs. search (needs, entry-boxes))
     (λ c. search needs)
     (λ c. search needs)
-    (λ c κs. search needs)
+    (λ c κs. search (needs, entry-boxes))
     (λ c. search needs)
     (λ c. search needs)
-    (λ c κs. search needs)
+    (λ c κs. search (needs, entry-boxes))
     (λ c. search needs)
     (λ c. search needs)
-    (λ c κs. search needs)
+    (λ c κs. search (needs, entry-boxes))
     (λ c κs. search needs)
     returns)

@@ -4,6 +4,7 @@ use mathlib.Core.Path.{ap, _∙_}
 use borrow.Author.Needs.{needs}
 use Rattle.field.specs.SBox.{sBox}
 use Rattle.aes_schedule.proofs.WordLaws.{four}
+use Rattle.aes.proofs.TableLaws.{entry-boxes}
 use Rattle.aes.proofs.table.shifted.Statement.{statement}
 use Rattle.aes.proofs.table.shifted.Tie as tie
 
@@ -21,12 +22,12 @@ shifted-spec =
     tie.close
     (tie.spec
     (λ c κs. search needs)
+    (λ c κs. search (needs, entry-boxes))
     (λ c κs. search needs)
+    (λ c κs. search (needs, entry-boxes))
     (λ c κs. search needs)
+    (λ c κs. search (needs, entry-boxes))
     (λ c κs. search needs)
-    (λ c κs. search needs)
-    (λ c κs. search needs)
-    (λ c κs. search needs)
-    (λ c κs. search needs)
+    (λ c κs. search (needs, entry-boxes))
     (λ c κs. search needs)
     returns)

@@ -1,7 +1,6 @@
--- `aes_schedule::schedule::expand` meets its contract: after m turns the key's words and m more are written, and what follows them
--- is as it was.
+-- `aes_schedule::schedule::expand` meets its contract: after m turns the key's words and m more are written, the last of them is
+-- carried, and what stands before and after them is as it was.
 -- Assumes nothing.
-use mathlib.Core.Path.{_≡_, _∙_}
 use Prim.Native.Nat.{_+_, _*_, _-_, _/_}
 use native.Mathlib.Nat.{div-le-self}
 use lib.ListN.{length}
@@ -12,27 +11,30 @@ use Rattle.aes_schedule.proofs.schedule.expand.Statement.{statement}
 use Rattle.aes_schedule.proofs.schedule.expand.Tie as tie
 
 abbrev Inv-loop : tie.InvT-loop
-Inv-loop key s w₀ nk r m₀ w m = Expanding key w₀ nk w m
+Inv-loop key at ctx₀ nk r x₀ m₀ ctx x m = Expanding key ctx₀ at nk ctx x m
 
 abbrev μ-loop : tie.MeasureT-loop
-μ-loop key s w₀ nk r m₀ w m = 3 * nk + 28 - m
+μ-loop key at ctx₀ nk r x₀ m₀ ctx x m = 3 * nk + 28 - m
+
+holds : tie.Need-loop-holds Inv-loop μ-loop
+holds c =
+    let at-put = c .before .before .before in
+    let h = at-put .before .before .before .before .pre in
+    expand-none _ _ _ _ (h .0) (h .1 .1 .1) (at-put .put .ensures) _ (h .1 .0) (h .1 .1 .0) (c .before .before .ctx .given .1) (c .word-at .ensures)
 
 again : tie.Need-loop-again Inv-loop μ-loop
 again c =
-    let at-split = c .before .before .before .before .before in
-    let at-next = at-split .before in
-    let l : length (at-split .split .result) ≡ 4 = search needs in
-    expand-turn (at-split .split .result) (c .before .before .put2 .last .0) (at-next .before .before .before .loop .inv)
-    (at-next .before .before .loop-test .taken)
-    (at-split .split .ensures ∙ at-next .next-word .ensures)
-    l
-    (c .before .before .put2 .ensures)
-    (c .before .w2 .given .1)
+    let at-put = c .before .before in
+    let at-split = at-put .before .before in
+    let at-next = at-split .before .before in
+    let at-test = at-next .before .before in
+    expand-turn (at-test .before .loop .inv) _ _ _ (at-test .loop-test .taken) (at-next .next-word .ensures) (at-split .split .ensures) (at-put .put2 .ensures) (c .before .ctx2 .given .1)
 
 returns : tie.Need-returns Inv-loop μ-loop
 returns c =
-    let at-start = c .before .before .before .before .before .before .before .before .before in
-    expand-all (at-start .args .w .now) (c .before .loop .inv) (c .loop-test .left) (c .before .before .before .before .put .ensures) (key-words _ (at-start .pre .0) .whole)
+    let at-put = c .before .before .before .before .before in
+    let h = at-put .before .before .before .before .pre in
+    expand-all _ _ _ _ (h .0) (h .1 .1 .1) (at-put .put .ensures) (c .before .loop .inv) (c .loop-test .left)
 
 pub expand-spec : {M : Type 1} → statement M
 expand-spec =
@@ -40,20 +42,26 @@ expand-spec =
     (tie.spec
     Inv-loop
     μ-loop
-    (λ c. let k = key-words _ (c .before .before .before .pre .0) in search needs)
-    (λ c. let h = div-le-self 255 (length (c .before .before .before .args .key .now) / 4) in search needs)
-    (λ c κs. let k = key-words _ (c .before .before .before .before .pre .0) in search needs)
-    (λ c. expand-none _ _ _ (c .before .before .before .before .before .before .before .pre .0) (c .before .before .before .before .before .before .before .pre .1 .1) (search needs) (c .before .before .put .ensures))
+    (λ c. let k = key-words _ (c .before .before .pre .0) in search needs)
+    (λ c. let h = div-le-self 255 (length (c .before .before .args .key .now) / 4) in search needs)
     (λ c. search needs)
+    (λ c. search needs)
+    (λ c. search needs)
+    (λ c κs. let k = key-words _ (c .before .before .before .pre .0) in search needs)
+    (λ c. let k = key-words _ (c .before .before .before .before .before .before .pre .0) in search needs)
+    (λ c. search needs)
+    (λ c κs. let k = key-words _ (c .before .before .before .before .before .before .pre .0) in search needs)
+    holds
     (λ c. search needs)
     (λ c. search needs)
     (λ c κs. (search needs, (placed (c .before .before .loop .inv) (c .before .loop-test .taken), search needs)))
+    (λ c. search needs)
+    (λ c. search needs)
+    (λ c. search needs)
+    (λ c. search needs)
+    (λ c. search needs)
+    (λ c. search needs)
     (λ c κs. search needs)
-    (λ c. search needs)
-    (λ c. search needs)
-    (λ c. search needs)
-    (λ c. search needs)
-    (λ c. search needs)
     (λ c. search needs)
     (λ c κs. search needs)
     (λ c. search needs)

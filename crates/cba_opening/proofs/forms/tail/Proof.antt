@@ -3,6 +3,7 @@
 use native.Mathlib.Omega.{arith}
 use lib.ListN.{length, length-take, length-drop}
 use Rattle.fips197.specs.Cipher.{cipher, invCipher}
+use Rattle.cba_steps.specs.Halves.{halvesOf}
 use Rattle.cba_opening.specs.Calls.{endAs}
 use Rattle.cba_opening.proofs.AttemptLaws.{blocks-turn}
 use borrow.Author.Needs.{needs}
@@ -27,7 +28,7 @@ returns c =
     let E = cipher (a .key .now) in
     let D = invCipher (a .key .now) in
     rw j
-    (blocks-turn E D (endAs _ E D (a .tag .now)) (length (a .tag .now)) (a .offset) (a .rest .now) (a .out .now) _ (c .before .before .joined-end .last .1 .1 .1 .1 .1 .0) (at-blocks .open-blocks .result) (a .e .blocks) _
+    (blocks-turn E D (endAs _ E D (a .tag .now)) (length (a .tag .now)) (halvesOf (a .offset)) (a .rest .now) (a .out .now) _ (c .before .before .joined-end .last .1 .1 .1 .1 .1 .0) (at-blocks .open-blocks .result) (a .e .blocks) _
     (omega (arith, q .0 .within)) (q .1 .1) (at-blocks .open-blocks .kept .1 .1 .1 .1 .1 .0) (at-blocks .open-blocks .ensures) (c .before .before .joined-end .ensures) (c .before .before .joined-end .kept .1 .1 .1 .1 .1 .0))
 
 separate-end-requires : tie.Need-separate-end-requires
@@ -49,7 +50,7 @@ returns-2 c =
     let E = cipher (a .key .now) in
     let D = invCipher (a .key .now) in
     rw j
-    (blocks-turn E D (endAs _ E D (a .tag .now)) (length (a .tag .now)) (a .offset) (a .rest .now) (a .out .now) _ (c .before .before .separate-end .last .1 .1 .1 .1 .1 .0) (at-blocks .open-blocks .result) (a .e .blocks) _
+    (blocks-turn E D (endAs _ E D (a .tag .now)) (length (a .tag .now)) (halvesOf (a .offset)) (a .rest .now) (a .out .now) _ (c .before .before .separate-end .last .1 .1 .1 .1 .1 .0) (at-blocks .open-blocks .result) (a .e .blocks) _
     (omega (arith, q .0 .within)) (q .1 .1) (at-blocks .open-blocks .kept .1 .1 .1 .1 .1 .0) (at-blocks .open-blocks .ensures) (c .before .before .separate-end .ensures) (c .before .before .separate-end .kept .1 .1 .1 .1 .1 .0))
 
 pub tail-spec : {M : Type 1} → statement M

@@ -19,7 +19,7 @@ returns c =
     let at-step = c .before .before .before .before in
     c .xor-block3 .ensures
     ∙ ap₂ xors (c .before .before .xor-block2 .ensures)
-    (c .before .encrypt .ensures ∙ ap (cipher _) (c .before .before .before .xor-block .ensures ∙ ap₂ xors (at-step .before .pad .ensures) (at-step .step .ensures)))
+    (c .before .encrypt .ensures ∙ ap (cipher _) (c .before .before .before .xor-block .ensures ∙ ap₂ xors (at-step .before .pad .ensures) (at-step .step-block .ensures)))
 
 pub joined-plain-spec : {M : Type 1} → statement M
 joined-plain-spec = tie.close (tie.spec (λ c κs. search needs) (λ c κs. search needs) (λ c κs. search needs) (λ c κs. search needs) encrypt-requires (λ c κs. search needs) returns)

@@ -5,6 +5,7 @@ use Rattle.octets.specs.Xor.{xors}
 use native.Mathlib.Omega.{arith}
 use lib.ListN.{length-take}
 use Rattle.fips197.specs.Cipher.{cipher, invCipher}
+use Rattle.cba_steps.specs.Halves.{halvesOf}
 use Rattle.cba_opening.proofs.AttemptLaws.{joined-rest-turn}
 use borrow.Author.Needs.{needs}
 use Rattle.cba_opening.proofs.joined.joined_rest.Statement.{statement}
@@ -20,8 +21,8 @@ returns c =
     let a = c .before .before .before .before .before .before .before .before .before .before .before .before .before .args in
     let h = c .before .before .before .before .before .before .before .before .before .before .before .before .before .pre .1 in
     let at-encrypt = c .before .before .before .before .before .before in
-    let block = at-encrypt .encrypt .ensures ∙ ap (cipher _) (at-encrypt .before .xor-block .ensures ∙ ap (xors _) (at-encrypt .before .before .step .ensures)) in
-    joined-rest-turn (cipher (a .key .now)) (invCipher (a .key .now)) (a .offset) (a .m) (a .c .now) (a .tag .now) (a .out .now) (c .before .before .before .before .before .before .encrypt .result) _ _
+    let block = at-encrypt .encrypt .ensures ∙ ap (cipher _) (at-encrypt .before .xor-block .ensures ∙ ap (xors _) (at-encrypt .before .before .step-block .ensures)) in
+    joined-rest-turn (cipher (a .key .now)) (invCipher (a .key .now)) (halvesOf (a .offset)) (a .m) (a .c .now) (a .tag .now) (a .out .now) (c .before .before .before .before .before .before .encrypt .result) _ _
     block (c .before .before .before .before .before .before .encrypt .ok .1 .0 .1) (h .1 .0) (c .before .before .before .mask .ensures) (c .joined-tag .ensures)
 
 pub joined-rest-spec : {M : Type 1} → statement M

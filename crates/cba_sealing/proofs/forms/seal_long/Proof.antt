@@ -18,6 +18,9 @@ use Rattle.cba_sealing.proofs.forms.seal_long.Tie as tie
 first-there : (c : tie.After-first-bytes) → c .first-bytes .result ≤ length (c .before .before .before .before .before .args .message .now)
 first-there c = omega (arith, c .first-bytes .ensures, c .before .before .before .before .before .pre .1 .1)
 
+out-there : (c : tie.After-cover) → c .before .before .before .before .before .first-bytes .result ≤ length (c .cover .last .1 .1 .1 .1 .1 .1 .0)
+out-there c = omega (arith, first-there (c .before .before .before .before .before), c .cover .kept .1 .1 .1 .1 .1 .1 .0, c .before .before .before .before .before .before .before .before .before .before .pre .1 .0 .room)
+
 cover-requires : tie.Need-cover-requires
 cover-requires c κs =
     let p = c .before .before .before .before .before .before .before .before .before .pre in
@@ -81,15 +84,15 @@ seal-long-spec =
     (λ c. search needs)
     (λ c. simp length-take (omega (arith, c .before .before .before .before .before .cover .kept .1 .1 .1 .1 .1 .1 .0, first-there (c .before .before .before .before .before .before .before .before .before .before), c .before .before .before .before .before .before .before .before .before .before .before .before .before .before .before .pre .1 .0 .room)))
     (λ c κs. simp length-take (omega (arith, c .before .before .before .before .before .before .before .before .before .before .first-bytes .ensures, c .before .before .before .before .before .before .before .before .before .before .before .before .before .before .before .pre .1 .0 .given .fits .2)))
-    (λ c. search needs)
+    (λ c. omega (arith, c .before .before .before .before .before .before .before .before .before .before .tag-bytes .ensures, c .before .before .before .before .before .before .before .before .before .before .before .before .before .before .before .before .pre .1 .0 .given .fits .0))
     (λ c. search needs)
     (λ c. search needs)
     (λ c. omega (arith, c .before .full-tag .ok .1 .0 .1))
     (λ c. search needs)
     (λ c. search needs)
     (λ c. search needs)
-    (λ c. search needs)
-    (λ c. search needs)
+    (λ c. out-there (c .before .before .before .before .before .before .before .before .before))
+    (λ c. out-there (c .before .before .before .before .before .before .before .before .before))
     (λ c. search needs)
     tail-requires
     (λ c. search needs)

@@ -11,7 +11,7 @@ returns : tie.Need-returns
 returns c =
     let at-step = c .before .before in
     c .encrypt .ensures
-    ∙ ap (cipher _) (c .before .xor-block2 .ensures ∙ ap₂ xors (at-step .before .xor-block .ensures ∙ ap (xors _) (at-step .before .before .pad .ensures)) (at-step .step .ensures))
+    ∙ ap (cipher _) (c .before .xor-block2 .ensures ∙ ap₂ xors (at-step .before .xor-block .ensures ∙ ap (xors _) (at-step .before .before .pad .ensures)) (at-step .step-block .ensures))
 
 pub short-tag-spec : {M : Type 1} → statement M
 short-tag-spec = tie.close (tie.spec (λ c κs. search needs) (λ c κs. search needs) (λ c κs. search needs) (λ c κs. search needs) (λ c κs. search needs) returns)

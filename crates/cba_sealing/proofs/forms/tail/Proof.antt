@@ -4,6 +4,7 @@ use native.Mathlib.Omega.{arith}
 use lib.ListN.{length-take, length-drop}
 use Rattle.fips197.specs.Cipher.{cipher}
 use Rattle.cba_sealing.specs.Calls.{tailAs}
+use Rattle.cba_steps.specs.Halves.{halvesOf}
 use Rattle.cba_sealing.proofs.TailLaws.{joined-tail-turn, separate-tail-turn}
 use borrow.Author.Needs.{needs}
 use Rattle.cba_sealing.proofs.forms.tail.Statement.{statement}
@@ -27,7 +28,7 @@ returns c =
     let h = rw j at (p .0 .closes) in
     let done = at-full .full-blocks .ensures in
     rw j
-    (joined-tail-turn (cipher (a .key .now)) (a .offset) (a .tag .now) (a .message .now) (a .out .now) _ (c .before .before .joined-end .last .1 .1 .1 .1 .1 .0) _ _ (a .e .blocks)
+    (joined-tail-turn (cipher (a .key .now)) (halvesOf (a .offset)) (a .tag .now) (a .message .now) (a .out .now) _ (c .before .before .joined-end .last .1 .1 .1 .1 .1 .0) _ _ (a .e .blocks)
     (h .0) (omega arith) (p .1 .1) (at-full .full-blocks .kept .1 .1 .1 .1 .1 .0) (done .offset-is) (done .sum-is) (done .written) (c .before .before .joined-end .ensures) (c .before .before .joined-end .kept .1 .1 .1 .1 .1 .0))
 
 separate-end-requires : tie.Need-separate-end-requires
@@ -48,7 +49,7 @@ returns-2 c =
     let h = rw j at (p .0 .closes) in
     let done = at-full .full-blocks .ensures in
     rw j
-    (separate-tail-turn (cipher (a .key .now)) (a .offset) (a .tag .now) (a .message .now) (a .out .now) _ (c .before .before .separate-end .last .1 .1 .1 .1 .1 .0) _ _ (a .e .blocks)
+    (separate-tail-turn (cipher (a .key .now)) (halvesOf (a .offset)) (a .tag .now) (a .message .now) (a .out .now) _ (c .before .before .separate-end .last .1 .1 .1 .1 .1 .0) _ _ (a .e .blocks)
     (p .0 .within) h (p .1 .1) (at-full .full-blocks .kept .1 .1 .1 .1 .1 .0) (done .offset-is) (done .sum-is) (done .written) (c .before .before .separate-end .ensures) (c .before .before .separate-end .kept .1 .1 .1 .1 .1 .0))
 
 pub tail-spec : {M : Type 1} → statement M

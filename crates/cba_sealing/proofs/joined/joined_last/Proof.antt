@@ -18,7 +18,7 @@ unfolding joinedLast
 returns c =
     let at-step = c .before .before .before in
     c .xor-block2 .ensures
-    ∙ ap (xors _) (c .before .encrypt .ensures ∙ ap (cipher _) (c .before .before .xor-block .ensures ∙ ap₂ xors (at-step .before .pad .ensures) (at-step .step .ensures)))
+    ∙ ap (xors _) (c .before .encrypt .ensures ∙ ap (cipher _) (c .before .before .xor-block .ensures ∙ ap₂ xors (at-step .before .pad .ensures) (at-step .step-block .ensures)))
 
 pub joined-last-spec : {M : Type 1} → statement M
 joined-last-spec = tie.close (tie.spec (λ c κs. search needs) (λ c κs. search needs) (λ c κs. search needs) encrypt-requires (λ c κs. search needs) returns)

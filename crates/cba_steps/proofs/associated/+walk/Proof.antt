@@ -12,7 +12,6 @@ use borrow.Fn.Kinds.{In}
 use borrow.Fn.PlainCycle.{Measures, is, falls, and}
 use Rattle.octets.specs.Xor.{xors}
 use Rattle.fips197.specs.Cipher.{cipher}
-use Rattle.cba_mode.specs.Data.{withRest}
 use Rattle.cba_steps.specs.Halves.{halvesOf}
 use Rattle.cba_steps.specs.Walk.{depth}
 use Rattle.cba_steps.proofs.DataLaws.{dataSum-rest, walk-turn}
@@ -38,14 +37,14 @@ walk-below t = and 3 walk-kinds.ps (falls 3 walk-kinds.ps _<_ μ-walk t) walk.Pr
 
 pub +walk-spec : {M : Type 1} → statement M
 +walk-spec = close μ-walk λ t. walk-lts.spec (
-  whole-reads.Asked,
-  whole-reads.Learnt,
   with-rest-reads.Asked,
   with-rest-reads.Learnt,
   doubled-reads.Asked,
   doubled-reads.Learnt,
   first-block-reads.Asked,
   first-block-reads.Learnt,
+  whole-reads.Asked,
+  whole-reads.Learnt,
   added-reads.Asked,
   added-reads.Learnt,
   walk-below t,
@@ -54,14 +53,10 @@ pub +walk-spec : {M : Type 1} → statement M
     (walk-at t)
     walk.Post
     (λ c κs. search needs)
-    (λ c κs. search needs)
     (λ c.
-    let at = c .before .before in
+    let at = c .before in
     let a = at .before .before .before .args in
-    let Δ = halvesOf (record { a = a .a; b = a .b }) in
-    c .with-rest .ensures
-    ∙ ap (λ (x : List ℕ). withRest (cipher (a .key .now)) (a .sum) x (a .rest .now)) (c .before .whole .ensures)
-    ∙ dataSum-rest (cipher (a .key .now)) (a .sum) Δ (a .rest .now) (at .if1 .taken))
+    c .with-rest .ensures ∙ dataSum-rest (cipher (a .key .now)) (a .sum) (halvesOf (record { a = a .a; b = a .b })) (a .rest .now) (at .if1 .taken))
     (λ c κs. search needs)
     (λ c κs. search needs)
     (λ c κs. search needs)
@@ -78,5 +73,5 @@ pub +walk-spec : {M : Type 1} → statement M
     let at-doubled = at-first .before in
     let a = at-doubled .before .before .before .before .args in
     walk-turn (cipher (a .key .now)) (a .sum) (halvesOf (record { a = a .a; b = a .b })) (a .rest .now) _ (halvesOf (at-doubled .doubled .result)) _ _ (at-doubled .before .if1 .left) (at-doubled .doubled .ensures) (at-first .first-block .ensures)
-    (at-added .added .ensures ∙ ap (λ (x : List ℕ). xors (a .sum) (cipher (a .key .now) (xors (at-first .first-block .result) x))) (at-added .before .whole2 .ensures))
+    (at-added .added .ensures ∙ ap (λ (x : List ℕ). xors (a .sum) (cipher (a .key .now) (xors (at-first .first-block .result) x))) (at-added .before .whole .ensures))
     (c .walk .ensures))

@@ -1,6 +1,5 @@
 -- `cba_steps::offsets::rotate` meets its contract.
 -- Assumes nothing.
-use mathlib.Core.Path.{_∙_}
 use borrow.Author.Needs.{needs}
 use Rattle.cba_steps.proofs.StartLaws.{left-pos, low-fits, half-fits, rotate-halves}
 use Rattle.cba_steps.proofs.offsets.rotate.Statement.{statement}
@@ -18,5 +17,4 @@ rotate-spec =
     (λ c. left-pos _ _ (c .pre))
     (λ c. record { fits = low-fits _ _ (c .pre) (c .args .a) })
     (λ c. record { fits = half-fits _ _ (c .pre) (c .args .b) (c .args .a) (search needs) })
-    (λ c κs. search needs)
-    (λ c. c .pair .ensures ∙ rotate-halves _ _ (c .before .pre) (c .before .args .a) (c .before .args .b) (search needs) (search needs)))
+    (λ c. rotate-halves _ _ (c .pre) (c .args .a) (c .args .b) (search needs) (search needs)))
