@@ -3,8 +3,8 @@
 use mathlib.Core.Path.{_≡_, refl, sym, ap, ap₂, _∙_}
 use mathlib.Core.Bool.{true}
 use mathlib.Core.List.{List, _++_, append-assoc}
-use Prim.Native.Nat.{ℕ, zero, suc, _+_, _-_, _*_, _/_, _%_, _<_, _≤_}
-use native.Mathlib.Nat.{add-zero, le-div-iff-mul-le, div-lt-iff-lt-mul, mul-le-mul, mul-div-le, mod-eq-sub-mul-div}
+use Prim.Native.Nat.{ℕ, suc, _+_, _-_, _*_, _/_, _%_, _<_, _≤_}
+use native.Mathlib.Nat.{add-zero, mul-suc, mul-add-mod-self-left, mul-add-div, mod-eq-of-lt, div-eq-of-lt, lt-of-mul-lt-mul-left}
 use native.Mathlib.Numerals.{add-one}
 use native.Mathlib.Omega.{arith}
 use lib.ListN.{length, take, drop, length-append, length-take, take-append-drop, List·getD-append}
@@ -15,10 +15,11 @@ use Rattle.octets.specs.Blocks.{block}
 use Rattle.octets.proofs.Parts.{drop-put, put-more}
 use Rattle.octets.proofs.Blocks.{block-append}
 use Rattle.fips197.specs.Schedule.{isKey, power, rcon, temp, nextWord, expanded, keyExpansion}
-use Rattle.fips197.proofs.ScheduleLaws.{power-byte, key-words}
+use Rattle.fips197.proofs.ScheduleLaws.{power-byte, key-words, temp-other}
+use Rattle.aes_schedule.specs.declared.schedule.Place.{Place}
 use Rattle.aes_schedule.specs.Words.{bytesOf, wordAt}
 use Rattle.aes_schedule.specs.Boxes.{Boxes}
-use Rattle.aes_schedule.specs.Place.{Place}
+use Rattle.aes_schedule.specs.Place.{passed, Paired}
 use Rattle.aes_schedule.proofs.WordLaws.{byte-word, word-bytes}
 
 -- Rcon as a word is a power of x
@@ -26,35 +27,17 @@ pub rcon-word : (j p : ℕ) → p ≡ power (j - 1) → bytesOf p ≡ rcon j
 unfolding rcon
 rcon-word j p e = rw e (byte-word (power (j - 1)) (power-byte (j - 1)))
 
--- i / Nk by the reciprocal of Nk, for each Nk
-pub quotient-is : {nk r i : ℕ} → Place nk r i → i * r / 256 ≡ i / nk
-quotient-is {nk} {r} {i} p =
-    let n : nk ≡ 4 + (nk - 4) = omega (arith, p .least) in
-    ap (λ (k : ℕ). i * k / 256) (p .part ∙ ap (λ (k : ℕ). 255 / k + 1) n) ∙ go (nk - 4) (omega (arith, p .most)) (omega (arith, p .within, n)) ∙ ap (λ (k : ℕ). i / k) (sym n)
-  where
-    go : (d : ℕ) → d ≤ 4 → i < 11 * (4 + d) → i * (255 / (4 + d) + 1) / 256 ≡ i / (4 + d)
-    go zero h l = omega arith
-    go (suc zero) h l = omega arith
-    go (suc (suc zero)) h l = omega arith
-    go (suc (suc (suc zero))) h l = omega arith
-    go (suc (suc (suc (suc zero)))) h l = omega arith
-    go (suc (suc (suc (suc (suc d))))) h l = absurd (omega arith)
+-- ---- the place of a word, nk words q + 1 times and k more
 
-pub product-small : {nk r i : ℕ} → Place nk r i → i * r ≤ 5632
-product-small {nk} p =
-    let some : 0 < nk = omega (arith, p .least) in
-    let h : 255 / nk < 64 = div-lt-iff-lt-mul some .1 (omega (arith, p .least)) in
-    mul-le-mul {n₂ = 88} {m₂ = 64} (omega (arith, p .within, p .most)) (omega (arith, p .part, h))
+module _ (nk q k : ℕ) (h : k < nk) where
+  gathered : nk + (nk * q + k) ≡ nk * suc q + k
+  gathered = rw mul-suc (omega arith)
 
--- what is left of i
-pub remainder-is : (nk i q : ℕ) → q ≡ i / nk → (nk * q ≤ i) × (i - nk * q ≡ i % nk)
-remainder-is nk i q e = rw e (mul-div-le i nk, sym (mod-eq-sub-mul-div i nk))
+  pub remainder-is : (nk + (nk * q + k)) % nk ≡ k
+  remainder-is = rw (gathered, mul-add-mod-self-left nk (suc q) k) (mod-eq-of-lt h)
 
--- which power of x a word i with i mod Nk = 0 takes: i / Nk is 1 to 10
-pub rcon-place : {nk r i : ℕ} → Place nk r i → (1 ≤ i / nk) × (i / nk < 11)
-rcon-place {nk} p =
-    let h : 0 < nk = omega (arith, p .least) in
-    (le-div-iff-mul-le h .1 (omega (arith, p .after)), div-lt-iff-lt-mul h .1 (p .within))
+  pub quotient-is : (nk + (nk * q + k)) / nk - 1 ≡ q
+  quotient-is = rw (gathered, mul-add-div {m = nk} (omega arith) (suc q) k, div-eq-of-lt h) (omega arith)
 
 -- ---- the round table in front of what is written
 
@@ -87,6 +70,13 @@ pub record Expanding (key d : List ℕ) (at nk : ℕ) (w : List ℕ) (x m : ℕ)
   pub so-far : w ≡ over (take at d ++ expanded nk key m) d
   pub last : bytesOf x ≡ block 4 (expanded nk key m) (nk + m - 1)
 
+-- so it is before a turn, which writes two words at a place
+pub record Turning (key d : List ℕ) (at nk : ℕ) (w : List ℕ) (x : ℕ) (p : Place) (m : ℕ) : Type 0 where
+  pub words : Expanding key d at nk w x m
+  pub place : Paired nk p
+  pub so-many : m ≡ passed nk p
+  pub pairs : m % 2 ≡ 0
+
 -- w after its part from n on was lent and came back as last
 abbrev lent : List ℕ → ℕ → List ℕ → List ℕ
 lent w n last = take n w ++ (last ++ drop (length w - n) (drop n w))
@@ -106,11 +96,11 @@ module _ (key e last : List ℕ) (at : ℕ) (h : isKey key ≡ true) (r : at + 2
       (ap (λ (z : List ℕ). (take at e ++ s) ++ z) (drop-put (take at e ++ key) e (length (take at e ++ s)) (simp length-append (omega arith))))
 
   pub expand-none : (x : ℕ) → Boxes e → 2048 ≤ at → length (lent e at last) ≡ length e → bytesOf x ≡ wordAt key (4 * (length key / 4 - 1)) →
-      Expanding key (lent e at last) at (length key / 4) (lent e at last) x 0
+      Turning key (lent e at last) at (length key / 4) (lent e at last) x (record { k = 0; q = 0 }) 0
   unfolding expanded
   expand-none x b t l w =
       let k = key-words key h in
-      record {
+      let words : Expanding key (lent e at last) at (length key / 4) (lent e at last) x 0 = record {
         least = k .least;
         most = k .most;
         behind = t;
@@ -121,6 +111,12 @@ module _ (key e last : List ℕ) (at : ℕ) (h : isKey key ≡ true) (r : at + 2
         size = k .whole ∙ omega arith;
         so-far = begun ∙ sym (over-begun key (omega arith));
         last = rw add-zero (w ∙ word-bytes key (4 * (length key / 4 - 1)) (omega arith));
+      } in
+      record {
+        words = words;
+        place = record { most = k .most; even = k .even; pair = refl; inside = omega arith };
+        so-many = omega arith;
+        pairs = refl;
       }
 
   -- all words have been written
@@ -136,10 +132,6 @@ module _ (key e last : List ℕ) (at : ℕ) (h : isKey key ≡ true) (r : at + 2
       ∙ ap (λ (j : ℕ). take at e ++ over (expanded (length key / 4) key j) (drop at e)) n
 
 module _ {key d : List ℕ} {at nk : ℕ} {w : List ℕ} {x m : ℕ} (v : Expanding key d at nk w x m) where
-  -- the word that is written next
-  pub placed : m < 3 * nk + 28 → Place nk (255 / nk + 1) (nk + m)
-  placed h = record { least = v .least; most = v .most; after = omega arith; within = omega arith; part = refl }
-
   ahead : length (take at d) ≡ at
   ahead = length-take-le at d (omega arith)
 
@@ -180,3 +172,26 @@ module _ {key d : List ℕ} {at nk : ℕ} {w : List ℕ} {x m : ℕ} (v : Expand
             ∙ ap (λ (z : List ℕ). over z d) (append-assoc p s b));
         last = rw (add-one m, ← n) (sym (ap (take 4) (drop-at s b (4 * (nk + suc m - 1)) (v .size ∙ omega arith))));
       }
+
+module _ {key d : List ℕ} {at nk : ℕ} {w : List ℕ} {x : ℕ} {p : Place} {m : ℕ} (v : Turning key d at nk w x p m) where
+  -- q is the power of x in Rcon
+  pub few : m < 3 * nk + 28 → p .q < 10
+  few h = lt-of-mul-lt-mul-left nk (omega arith)
+
+  pub room-for-two : m < 3 * nk + 28 → m + 1 < 3 * nk + 28
+  room-for-two h = let l : m / 2 < 3 * (nk / 2) + 14 = omega arith in omega arith
+
+  pub fits-two : m < 3 * nk + 28 → m + 2 < 54
+  fits-two h = omega arith
+
+  -- the second word of a turn is not a special one
+  pub second : (t : List ℕ) → temp nk (nk + (m + 1)) t ≡ t
+  second t =
+      let e : nk + (m + 1) ≡ nk + (nk * p .q + (p .k + 1)) = omega arith in
+      let r : (nk + (m + 1)) % nk ≡ p .k + 1 = rw e (remainder-is nk (p .q) (p .k + 1) (omega arith)) in
+      temp-other nk (nk + (m + 1)) t (λ h. omega arith) (λ h. omega arith)
+
+  -- two words more have been written
+  pub turned : {w′ : List ℕ} {x′ : ℕ} {p′ : Place} → Expanding key d at nk w′ x′ (m + 1 + 1) → Paired nk p′ → passed nk p′ ≡ passed nk p + 2 →
+      Turning key d at nk w′ x′ p′ (m + 2)
+  turned e a n = let s : m + 2 ≡ m + 1 + 1 = omega arith in record { words = rw s e; place = a; so-many = omega arith; pairs = omega arith }

@@ -1,12 +1,16 @@
 -- Where the loop over the words of a schedule stands.
 -- Assumes nothing.
 use mathlib.Core.Path.{_≡_}
-use Prim.Native.Nat.{ℕ, _+_, _*_, _/_, _<_, _≤_}
+use Prim.Native.Nat.{ℕ, _+_, _*_, _%_, _<_, _≤_}
+use Rattle.aes_schedule.specs.declared.schedule.Place.{Place}
 
--- word i of a schedule with Nk key words comes after them, and r is the reciprocal of Nk in parts of 256
-pub record Place (nk r i : ℕ) : Type 0 where
-  pub least : 4 ≤ nk
+-- how many words after the key's come before a place
+abbrev pub passed : ℕ → Place → ℕ
+passed nk p = nk * p .q + p .k
+
+-- a place that two words go into, in front of the next multiple of Nk
+pub record Paired (nk : ℕ) (p : Place) : Type 0 where
   pub most : nk ≤ 8
-  pub after : nk ≤ i
-  pub within : i < 11 * nk
-  pub part : r ≡ 255 / nk + 1
+  pub even : nk % 2 ≡ 0
+  pub pair : p .k % 2 ≡ 0
+  pub inside : p .k < nk

@@ -9,18 +9,25 @@ use crate::words::word_at;
 ghost use mathlib.Core.Path.{_≡_};
 ghost use mathlib.Core.Bool.{true};
 ghost use mathlib.Core.List.{_++_};
-ghost use Prim.Native.Nat.{_+_, _*_, _/_, _≤_, _<_};
+ghost use Prim.Native.Nat.{_+_, _*_, _≤_, _<_};
 ghost use lib.ListN.{length, take, drop};
 ghost use Rattle.octets.specs.Strings.{over};
 ghost use Rattle.octets.specs.Xor.{xors};
 ghost use Rattle.field.specs.SBox.{sBox};
 ghost use Rattle.fips197.specs.Schedule.{isKey, subWord, rotWord, power, temp, keyExpansion};
 ghost use Rattle.aes_schedule.specs.Boxes.{Boxes};
-ghost use Rattle.aes_schedule.specs.Place.{Place};
+ghost use Rattle.aes_schedule.specs.Place.{passed, Paired};
 ghost use Rattle.aes_schedule.specs.Words.{bytesOf, wordAt};
 
 // The powers of x in the byte field that the words Rcon begin with.
 const POWERS: [u8; 10] = [0x01, 0x02, 0x04, 0x08, 0x10, 0x20, 0x40, 0x80, 0x1b, 0x36];
+
+// Where the loop over the words after the key's stands: nk words q times, and k more. It is counted,
+// since a division for each word took a tenth of a short call.
+struct Place {
+    k: usize,
+    q: usize,
+}
 
 fn power_of(j: usize) -> u8
     requires { ⌜ j < 10 ⌝ }
@@ -55,29 +62,18 @@ fn sub_word(t: &[u8], x: u32) -> u32
     )
 }
 
-// i / nk, by the reciprocal r of nk in parts of 256: a division for each word took a tenth of a
-// short call.
-fn quotient(nk: usize, r: usize, i: usize) -> usize
-    requires { ⌜ Place nk r i ⌝ }
-    ensures { λ q. ⌜ q ≡ i / nk ⌝ }
-{
-    i * r / 256
-}
-
-// What goes into word i beside word i - nk, from word i - 1.
-fn step_word(t: &[u8], nk: usize, r: usize, i: usize, x: u32) -> u32
+// What goes into the word at a place beside the word nk before it, from the word before it.
+fn step_word(t: &[u8], nk: usize, p: Place, x: u32) -> u32
     requires { ⌜ Boxes (now t) ⌝ }
-    requires { ⌜ Place nk r i ⌝ }
-    ensures { λ r. ⌜ bytesOf r ≡ temp nk i (bytesOf x) ⌝ }
+    requires { ⌜ (p .k < nk) × (p .q < 10) ⌝ }
+    ensures { λ r. ⌜ bytesOf r ≡ temp nk (nk + passed nk p) (bytesOf x) ⌝ }
 {
-    let q = quotient(nk, r, i);
-    let k = i - nk * q;
-    if k == 0 {
+    if p.k == 0 {
         let y = sub_word(t, rot_word(x));
-        return y ^ power_of(q - 1) as u32;
+        return y ^ power_of(p.q) as u32;
     }
     if nk > 6 {
-        if k == 4 {
+        if p.k == 4 {
             return sub_word(t, x);
         }
     }
@@ -86,13 +82,26 @@ fn step_word(t: &[u8], nk: usize, r: usize, i: usize, x: u32) -> u32
 
 // The word after the key's words and m more, from the word before it; the schedule stands at a
 // place of t.
-fn next_word(t: &[u8], at: usize, nk: usize, r: usize, m: usize, x: u32) -> u32
+fn next_word(t: &[u8], at: usize, nk: usize, p: Place, m: usize, x: u32) -> u32
     requires { ⌜ Boxes (now t) ⌝ }
-    requires { ⌜ Place nk r (nk + m) ⌝ }
+    requires { ⌜ (p .k < nk) × (p .q < 10) ⌝ }
+    requires { ⌜ m ≡ passed nk p ⌝ }
     requires { ⌜ at + 4 * m + 4 ≤ length (now t) ⌝ }
     ensures { λ r. ⌜ bytesOf r ≡ xors (wordAt (now (t .entry)) (at + 4 * m)) (temp nk (nk + m) (bytesOf x)) ⌝ }
 {
-    word_at(t, at + 4 * m) ^ step_word(t, nk, r, nk + m, x)
+    word_at(t, at + 4 * m) ^ step_word(t, nk, p, x)
+}
+
+// The place two words on.
+fn next_place(nk: usize, p: Place) -> Place
+    requires { ⌜ Paired nk p ⌝ }
+    requires { ⌜ p .q < 10 ⌝ }
+    ensures { λ r. ⌜ (Paired nk r) × (passed nk r ≡ passed nk p + 2) ⌝ }
+{
+    if p.k + 2 == nk {
+        return Place { k: 0, q: p.q + 1 };
+    }
+    Place { k: p.k + 2, q: p.q }
 }
 
 // Writes the schedule of a key at a place of a context, behind its round table. S is read from the
@@ -108,14 +117,18 @@ pub fn expand(key: &[u8], at: usize, ctx: &mut [u8])
         ⌝ }
 {
     let nk = key.len() / 4;
-    let r = 255 / nk + 1;
     octets::put(&mut ctx[at..], key);
     let mut x = word_at(key, 4 * (nk - 1));
+    let mut p = Place { k: 0, q: 0 };
     let mut m = 0;
     while m < 3 * nk + 28 {
-        let next = next_word(ctx, at, nk, r, m, x);
-        octets::put(&mut ctx[at + 4 * (nk + m)..], &split(next));
-        x = next;
-        m += 1;
+        let a = next_word(ctx, at, nk, p, m, x);
+        octets::put(&mut ctx[at + 4 * (nk + m)..], &split(a));
+        // nk is even, so the second word of a turn is never one that S goes into
+        let b = word_at(ctx, at + 4 * (m + 1)) ^ a;
+        octets::put(&mut ctx[at + 4 * (nk + (m + 1))..], &split(b));
+        x = b;
+        p = next_place(nk, p);
+        m += 2;
     }
 }

@@ -1,11 +1,11 @@
 -- Laws of the key schedule, over the number of key words.
 -- Assumes nothing.
 use mathlib.Core.Path.{_≡_, refl, _∙_}
-use mathlib.Core.Bool.{Bool, true, false, cond, _||_}
+use mathlib.Core.Bool.{Bool, true, false, cond, _||_, and-false}
 use mathlib.Core.List.{List}
 use Prim.Native.Nat.{ℕ, zero, suc, _+_, _-_, _*_, _/_, _%_, _<_, _≤_}
 use native.Mathlib.Omega.{arith}
-use lib.Dec.{eqb}
+use lib.Dec.{eqb, ltb}
 use lib.ListN.{length, drop, length-append}
 use borrow.Author.Tests.{eqb-true, eq-eqb, ne-eqb, lt-ltb, le-ltb}
 use Rattle.octets.specs.Strings.{Bytes, Octets}
@@ -17,20 +17,21 @@ use Rattle.octets.proofs.Blocks.{length-block}
 use Rattle.field.proofs.Rules.{xtime-byte, sBox-byte}
 use Rattle.fips197.specs.Schedule.{isKey, subWord, rotWord, power, rcon, atStart, atMiddle, temp, nextWord, expanded, keyExpansion}
 
--- what a key's length is good for: it is a number of words, of which there are 4 to 8
+-- what a key's length is good for: it is a number of words, which is even and 4 to 8
 pub record KeyWords (key : List ℕ) : Type 0 where
   pub least : 4 ≤ length key / 4
   pub most : length key / 4 ≤ 8
   pub whole : length key ≡ 4 * (length key / 4)
+  pub even : length key / 4 % 2 ≡ 0
 
 pub key-words : (key : List ℕ) → isKey key ≡ true → KeyWords key
 unfolding isKey
 key-words key h = go (eqb (length key) 16) (eqb (length key) 24) (eqb (length key) 32) refl refl refl h
   where
     go : (x y z : Bool) → eqb (length key) 16 ≡ x → eqb (length key) 24 ≡ y → eqb (length key) 32 ≡ z → (x || y || z) ≡ true → KeyWords key
-    go true y z p q r e = let n = eqb-true (length key) 16 p in record { least = omega arith; most = omega arith; whole = omega arith }
-    go false true z p q r e = let n = eqb-true (length key) 24 q in record { least = omega arith; most = omega arith; whole = omega arith }
-    go false false z p q r e = let n = eqb-true (length key) 32 (r ∙ e) in record { least = omega arith; most = omega arith; whole = omega arith }
+    go true y z p q r e = let n = eqb-true (length key) 16 p in record { least = omega arith; most = omega arith; whole = omega arith; even = omega arith }
+    go false true z p q r e = let n = eqb-true (length key) 24 q in record { least = omega arith; most = omega arith; whole = omega arith; even = omega arith }
+    go false false z p q r e = let n = eqb-true (length key) 32 (r ∙ e) in record { least = omega arith; most = omega arith; whole = omega arith; even = omega arith }
 
 -- ---- lengths and bytes
 
@@ -100,6 +101,6 @@ module _ (nk i : ℕ) (t : List ℕ) where
   unfolding temp
   temp-short h p = rw (ne-eqb (i % nk) 0 h, le-ltb 6 nk p)
 
-  pub temp-other : (i % nk ≡ 0 → ⊥) → 6 < nk → (i % nk ≡ 4 → ⊥) → temp nk i t ≡ t
+  pub temp-other : (i % nk ≡ 0 → ⊥) → (i % nk ≡ 4 → ⊥) → temp nk i t ≡ t
   unfolding temp
-  temp-other h p q = rw (ne-eqb (i % nk) 0 h, lt-ltb 6 nk p, ne-eqb (i % nk) 4 q)
+  temp-other h q = rw (ne-eqb (i % nk) 0 h, ne-eqb (i % nk) 4 q, and-false (ltb 6 nk))
