@@ -57,7 +57,9 @@ fn tail(
     requires { ⌜ Ends (e .joined) (e .blocks) (length (now tag)) (length (now rest) - length (now tag)) ⌝ }
     requires { ⌜ length (now tag) ≤ 16 ⌝ }
     requires { ⌜ length (now rest) ≤ length (now out) + length (now tag) ⌝ }
-    ensures { λ r. ⌜ Tail (now (key .entry)) e (now (tag .entry)) (halvesOf offset) (now (rest .entry)) (now (out .entry)) r (now (out .exit)) ⌝ }
+    ensures { λ r. ⌜
+        Tail (now (key .entry)) e (now (tag .entry)) (halvesOf offset) (now (rest .entry)) (now (out .entry)) r (now (out .exit))
+        ⌝ }
 {
     let k = e.blocks;
     let s = open_blocks(key, ctx, rest, k, offset, out);

@@ -61,7 +61,9 @@ fn joined_rest(
     requires { ⌜ length (now tag) ≤ length (now c) ⌝ }
     requires { ⌜ length (now c) ≤ 16 ⌝ }
     requires { ⌜ length (now c) ≤ length (now out) + length (now tag) ⌝ }
-    ensures { λ r. ⌜ OpenedRest (now (key .entry)) (now (tag .entry)) (halvesOf offset) m (now (c .entry)) (now (out .entry)) r (now (out .exit)) ⌝ }
+    ensures { λ r. ⌜
+        OpenedRest (now (key .entry)) (now (tag .entry)) (halvesOf offset) m (now (c .entry)) (now (out .entry)) r (now (out .exit))
+        ⌝ }
 {
     let e = aes::encrypt(key, ctx, octets::xor_block(m, step_block(2, 2, offset)));
     mask(e, 0, &c[..c.len() - tag.len()], out);

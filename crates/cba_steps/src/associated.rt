@@ -8,7 +8,7 @@ use crate::offsets::whole;
 use crate::parameters::Parameters;
 ghost use mathlib.Core.Path.{_≡_};
 ghost use mathlib.Core.List.{_++_};
-ghost use Prim.Native.Nat.{_≤_, _<_};
+ghost use Prim.Native.Nat.{_≤_};
 ghost use lib.ListN.{length};
 ghost use Rattle.octets.specs.Numbers.{digits};
 ghost use Rattle.octets.specs.Xor.{xors};

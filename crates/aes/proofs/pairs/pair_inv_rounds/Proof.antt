@@ -1,8 +1,7 @@
 -- `aes::pairs::pair_inv_rounds` meets its contract: after i turns the States are those after i rounds, of every pair that the first
 -- AddRoundKey takes to where the loop began.
 -- Assumes nothing.
-use mathlib.Core.Path.{_≡_, ap, _∙_}
-use mathlib.Core.List.{List}
+use mathlib.Core.Path.{ap, _∙_}
 use Prim.Native.Nat.{ℕ, _-_, _≤_}
 use native.Mathlib.Nat.{le-antisymm}
 use borrow.Author.Needs.{needs}
