@@ -109,7 +109,7 @@ fn plain_blocks(
     requires { ⌜ Decrypts (now key) (now inv) ⌝ }
     requires { ⌜ 16 * k ≤ length (now ciphertext) ⌝ }
     requires { ⌜ 16 * k ≤ length (now out) ⌝ }
-    ensures { λ r. ⌜ OpenedBlocks (now (key .entry)) (halvesOf start) (now (ciphertext .entry)) (now (out .entry)) k r (now (out .exit)) ⌝ }
+    ensures { λ r. ⌜ OpenedBlocks (now (key .entry)) start (now (ciphertext .entry)) (now (out .entry)) k r (now (out .exit)) ⌝ }
 {
     let mut s = Running {
         offset: start,
@@ -139,7 +139,7 @@ pub fn open_blocks(
     requires { ⌜ Encrypts (now key) (now ctx) ⌝ }
     requires { ⌜ 16 * k ≤ length (now ciphertext) ⌝ }
     requires { ⌜ 16 * k ≤ length (now out) ⌝ }
-    ensures { λ r. ⌜ OpenedBlocks (now (key .entry)) (halvesOf start) (now (ciphertext .entry)) (now (out .entry)) k r (now (out .exit)) ⌝ }
+    ensures { λ r. ⌜ OpenedBlocks (now (key .entry)) start (now (ciphertext .entry)) (now (out .entry)) k r (now (out .exit)) ⌝ }
 {
     if k == 0 {
         return Running {

@@ -14,7 +14,6 @@ ghost use lib.ListN.{length};
 ghost use Rattle.aes.specs.Context.{Encrypts};
 ghost use Rattle.cba_mode.specs.Sets.{tagBytes};
 ghost use Rattle.cba_steps.specs.Endings.{Ends};
-ghost use Rattle.cba_steps.specs.Halves.{halvesOf};
 ghost use Rattle.cba_sealing.specs.Calls.{firstBytes};
 ghost use Rattle.cba_opening.specs.Calls.{Opens, Tail, Try, Dec};
 
@@ -57,9 +56,7 @@ fn tail(
     requires { ⌜ Ends (e .joined) (e .blocks) (length (now tag)) (length (now rest) - length (now tag)) ⌝ }
     requires { ⌜ length (now tag) ≤ 16 ⌝ }
     requires { ⌜ length (now rest) ≤ length (now out) + length (now tag) ⌝ }
-    ensures { λ r. ⌜
-        Tail (now (key .entry)) e (now (tag .entry)) (halvesOf offset) (now (rest .entry)) (now (out .entry)) r (now (out .exit))
-        ⌝ }
+    ensures { λ r. ⌜ Tail (now (key .entry)) e (now (tag .entry)) offset (now (rest .entry)) (now (out .entry)) r (now (out .exit)) ⌝ }
 {
     let k = e.blocks;
     let s = open_blocks(key, ctx, rest, k, offset, out);

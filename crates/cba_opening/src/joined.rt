@@ -10,13 +10,10 @@ ghost use mathlib.Core.Bool.{true};
 ghost use Prim.Native.Nat.{_+_, _≤_};
 ghost use lib.ListN.{length};
 ghost use Rattle.octets.specs.Strings.{eqs};
-ghost use Rattle.fips197.specs.Cipher.{cipher, invCipher};
 ghost use Rattle.aes.specs.Context.{Encrypts};
 ghost use Rattle.cba_mode.specs.Offsets.{lastBytes};
-ghost use Rattle.cba_mode.specs.Open.{joinedPlain};
-ghost use Rattle.cba_steps.specs.Halves.{halvesOf};
 ghost use Rattle.cba_sealing.specs.Calls.{maskedBy};
-ghost use Rattle.cba_opening.specs.Calls.{OpenedRest, OpenedEnd};
+ghost use Rattle.cba_opening.specs.Calls.{JoinedPlain, OpenedRest, OpenedEnd};
 
 // M_{m-1}, from C_{m-1} and C_m.
 fn joined_plain(
@@ -28,7 +25,7 @@ fn joined_plain(
     last: [u8; 16],
 ) -> [u8; 16]
     requires { ⌜ Encrypts (now key) (now ctx) ⌝ }
-    ensures { λ r. ⌜ r ≡ joinedPlain (cipher (now (key .entry))) (invCipher (now (key .entry))) (halvesOf offset) sum (now (c .entry)) last ⌝ }
+    ensures { λ r. ⌜ JoinedPlain (now (key .entry)) offset sum (now (c .entry)) last r ⌝ }
 {
     let x = octets::xor_block(pad(c), step_block(6, 6, offset));
     octets::xor_block(octets::xor_block(last, sum), aes::encrypt(key, ctx, x))
@@ -61,9 +58,7 @@ fn joined_rest(
     requires { ⌜ length (now tag) ≤ length (now c) ⌝ }
     requires { ⌜ length (now c) ≤ 16 ⌝ }
     requires { ⌜ length (now c) ≤ length (now out) + length (now tag) ⌝ }
-    ensures { λ r. ⌜
-        OpenedRest (now (key .entry)) (now (tag .entry)) (halvesOf offset) m (now (c .entry)) (now (out .entry)) r (now (out .exit))
-        ⌝ }
+    ensures { λ r. ⌜ OpenedRest (now (key .entry)) (now (tag .entry)) offset m (now (c .entry)) (now (out .entry)) r (now (out .exit)) ⌝ }
 {
     let e = aes::encrypt(key, ctx, octets::xor_block(m, step_block(2, 2, offset)));
     mask(e, 0, &c[..c.len() - tag.len()], out);

@@ -15,6 +15,7 @@ use Rattle.cba_mode.specs.Offsets.{F, offset, pad, leading}
 use Rattle.cba_mode.specs.Seal.{checksum, cipherBlocks, Δ₀, masked, joinedBlock, joinedEnd, joinedTail, lastBlock, lastOffset, separateTail, sealWith}
 use Rattle.cba_steps.specs.declared.parameters.Parameters.{Parameters}
 use Rattle.cba_steps.specs.declared.endings.Ending.{Ending}
+use Rattle.cba_steps.specs.declared.offsets.Halves.{Halves}
 use Rattle.cba_steps.specs.Halves.{halvesOf}
 use Rattle.cba_sealing.specs.declared.begin.Begun.{Begun}
 use Rattle.cba_sealing.specs.declared.blocks.Running.{Running}
@@ -73,16 +74,16 @@ pub record Passed (E : List ℕ → List ℕ) (σ Δ M d : List ℕ) (k : ℕ) (
   pub written : out ≡ cipherBlocks E Δ M k ++ drop (16 * k) d
 
 -- C_1 .. C_k
-abbrev pub SealedBlocks : List ℕ → List ℕ → List ℕ → List ℕ → ℕ → Running → List ℕ → Type 0
-SealedBlocks key Δ M d k r out = Passed (cipher key) (checksum M k) Δ M d k r out
+abbrev pub SealedBlocks : List ℕ → Halves → List ℕ → List ℕ → ℕ → Running → List ℕ → Type 0
+SealedBlocks key start M d k r out = Passed (cipher key) (checksum M k) (halvesOf start) M d k r out
 
 -- the first n blocks of M, after those that left s
 abbrev pub SealedMore : List ℕ → Running → List ℕ → List ℕ → ℕ → Running → List ℕ → Type 0
 SealedMore key s M d n r out = Passed (cipher key) (summed (blockOf (s .sum)) M n) (halvesOf (s .offset)) M d n r out
 
 -- C_{m−1} of the joined form
-abbrev pub JoinedBlock : List ℕ → List ℕ → List ℕ → List ℕ → List ℕ → List ℕ → List ℕ → Type 0
-JoinedBlock key Δ Tag m last d out = out ≡ joinedBlock (cipher key) Δ m (last ++ Tag) ++ drop (length last + length Tag) d
+abbrev pub JoinedBlock : List ℕ → Halves → List ℕ → List ℕ → List ℕ → List ℕ → List ℕ → Type 0
+JoinedBlock key h Tag m last d out = out ≡ joinedBlock (cipher key) (halvesOf h) m (last ++ Tag) ++ drop (length last + length Tag) d
 
 -- C_{m−1} C_m of the joined form, from M_{m−1} M_m
 abbrev pub JoinedEnd : List ℕ → List ℕ → Running → List ℕ → List ℕ → List ℕ → Type 0
@@ -91,8 +92,8 @@ JoinedEnd key Tag s rest d out =
     ++ drop (length rest + length Tag) d
 
 -- C_m of the separate form, or M_m from it
-abbrev pub LastBlock : List ℕ → List ℕ → List ℕ → List ℕ → List ℕ → List ℕ → Type 0
-LastBlock key Δ Tag last d out = out ≡ lastBlock (cipher key) Δ Tag last ++ drop (length last) d
+abbrev pub LastBlock : List ℕ → Halves → List ℕ → List ℕ → List ℕ → List ℕ → Type 0
+LastBlock key h Tag last d out = out ≡ lastBlock (cipher key) (halvesOf h) Tag last ++ drop (length last) d
 
 -- the block whose first t bytes are C_{m+1} of the separate form
 abbrev pub tagBlock : (List ℕ → List ℕ) → List ℕ → List ℕ → List ℕ → List ℕ → List ℕ
@@ -109,8 +110,8 @@ unfoldable pub tailAs : Bool → (List ℕ → List ℕ) → List ℕ → List �
 tailAs true E Δ Tag M′ k = joinedTail E Δ Tag M′ k
 tailAs false E Δ Tag M′ k = separateTail E (8 * length Tag) Δ Tag M′ k
 
-abbrev pub Tail : List ℕ → Ending → List ℕ → List ℕ → List ℕ → List ℕ → List ℕ → Type 0
-Tail key e Tag Δ M′ d out = out ≡ tailAs (e .joined) (cipher key) Δ Tag M′ (e .blocks) ++ drop (length M′ + length Tag) d
+abbrev pub Tail : List ℕ → Ending → List ℕ → Halves → List ℕ → List ℕ → List ℕ → Type 0
+Tail key e Tag h M′ d out = out ≡ tailAs (e .joined) (cipher key) (halvesOf h) Tag M′ (e .blocks) ++ drop (length M′ + length Tag) d
 
 -- ---- the whole
 

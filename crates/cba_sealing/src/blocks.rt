@@ -109,7 +109,7 @@ pub fn full_blocks(
     requires { ⌜ Encrypts (now key) (now ctx) ⌝ }
     requires { ⌜ 16 * k ≤ length (now message) ⌝ }
     requires { ⌜ 16 * k ≤ length (now out) ⌝ }
-    ensures { λ r. ⌜ SealedBlocks (now (key .entry)) (halvesOf start) (now (message .entry)) (now (out .entry)) k r (now (out .exit)) ⌝ }
+    ensures { λ r. ⌜ SealedBlocks (now (key .entry)) start (now (message .entry)) (now (out .entry)) k r (now (out .exit)) ⌝ }
 {
     let mut s = Running {
         offset: start,

@@ -73,9 +73,7 @@ fn tail(
     requires { ⌜ Ends (e .joined) (e .blocks) (length (now tag)) (length (now message)) ⌝ }
     requires { ⌜ length (now tag) ≤ 16 ⌝ }
     requires { ⌜ length (now message) + length (now tag) ≤ length (now out) ⌝ }
-    ensures { λ _. ⌜
-        Tail (now (key .entry)) e (now (tag .entry)) (halvesOf offset) (now (message .entry)) (now (out .entry)) (now (out .exit))
-        ⌝ }
+    ensures { λ _. ⌜ Tail (now (key .entry)) e (now (tag .entry)) offset (now (message .entry)) (now (out .entry)) (now (out .exit)) ⌝ }
 {
     let k = e.blocks;
     let s = full_blocks(key, ctx, message, k, offset, out);

@@ -29,9 +29,7 @@ fn joined_block(
     requires { ⌜ Encrypts (now key) (now ctx) ⌝ }
     requires { ⌜ length (now last) + length (now tag) ≤ 16 ⌝ }
     requires { ⌜ length (now last) + length (now tag) ≤ length (now out) ⌝ }
-    ensures { λ _. ⌜
-        JoinedBlock (now (key .entry)) (halvesOf offset) (now (tag .entry)) m (now (last .entry)) (now (out .entry)) (now (out .exit))
-        ⌝ }
+    ensures { λ _. ⌜ JoinedBlock (now (key .entry)) offset (now (tag .entry)) m (now (last .entry)) (now (out .entry)) (now (out .exit)) ⌝ }
 {
     let e = aes::encrypt(key, ctx, octets::xor_block(m, whole(offset)));
     let n = last.len();

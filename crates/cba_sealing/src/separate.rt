@@ -29,9 +29,7 @@ pub fn last_block(
     requires { ⌜ length (now tag) ≤ 16 ⌝ }
     requires { ⌜ length (now last) ≤ 16 ⌝ }
     requires { ⌜ length (now last) ≤ length (now out) ⌝ }
-    ensures { λ _. ⌜
-        LastBlock (now (key .entry)) (halvesOf offset) (now (tag .entry)) (now (last .entry)) (now (out .entry)) (now (out .exit))
-        ⌝ }
+    ensures { λ _. ⌜ LastBlock (now (key .entry)) offset (now (tag .entry)) (now (last .entry)) (now (out .entry)) (now (out .exit)) ⌝ }
 {
     let x = octets::xor_block(right_aligned(tag), step_block(2, 4, offset));
     mask(aes::encrypt(key, ctx, x), 0, last, out);
