@@ -1,13 +1,14 @@
 -- What the ten parameter sets have in common.
 -- Assumes nothing.
-use mathlib.Core.Path.{_≡_, refl, ap}
+use mathlib.Core.Path.{_≡_, refl, ap, _∙_}
 use mathlib.Core.Bool.{Bool, true, false, _&&_, _||_, false≢true}
-use mathlib.Core.List.{List, [], _∷_}
+use mathlib.Core.List.{List, [], _∷_, _++_}
 use Prim.Native.Nat.{ℕ, zero, suc, _-_, _%_, _≤_}
 use native.Mathlib.Omega.{arith}
 use borrow.Author.Tests.{leb-true}
 use lib.Dec.{T, eqb, leb}
-use lib.ListN.{length, getD}
+use lib.ListN.{length, getD, take, replicate, length-append, length-replicate}
+use lib.Seq.{take-at}
 use Rattle.octets.proofs.Tests.{agree, same}
 use Rattle.fips197.specs.Schedule.{isKey}
 use Rattle.cba_mode.specs.Sets.{isSet, column, capacity, keyBytes, ell, Fits}
@@ -68,6 +69,14 @@ capacity-least (suc n) h =
 pub key-most : (set : ℕ) → isSet set ≡ true → keyBytes set ≤ 32
 unfolding bounds zeros
 key-most set h = let e = ap (λ (l : List ℕ). getD l 5 0) (held set h) in omega (arith, e)
+
+-- a key of the set's length, held with zeros after it up to 32 bytes
+pub held-key : (set : ℕ) (key : List ℕ) → isSet set ≡ true → length key ≡ keyBytes set →
+    let k = key ++ replicate (32 - length key) 0 in (length k ≡ 32) × (take (keyBytes set) k ≡ key)
+held-key set key h l = (
+  length-append key _ ∙ omega (arith, length-replicate {A = ℕ} (32 - length key) 0, key-most set h, l),
+  take-at key _ (keyBytes set) l,
+)
 
 chosen : (x : Bool) → picked x ≡ 0 → x ≡ true
 unfolding picked

@@ -1,6 +1,6 @@
 -- Rules that hold of every byte, each by one test that is computed over all 256 of them.
 -- Assumes nothing.
-use mathlib.Core.Path.{_≡_, sym, ap, _∙_}
+use mathlib.Core.Path.{_≡_, refl, sym, ap, _∙_}
 use mathlib.Core.List.{List, [], _∷_}
 use Prim.Native.Nat.{ℕ, zero, suc, _*_, _/_, _%_, _^_, _<_, _≤_, min}
 use native.Mathlib.Nat.{pow-suc, lt-of-le-of-lt, mul-le-mul-right, le-of-suc-le-suc, mod-lt}
@@ -12,7 +12,7 @@ use Rattle.octets.specs.Strings.{table}
 use Rattle.octets.proofs.Strings.{getD-table}
 use Rattle.octets.proofs.Tests.{agree, same}
 use Rattle.field.specs.Field.{xtime, mulBits, mul, squares, inverse}
-use Rattle.field.specs.SBox.{bitsOf, affine, invAffine, sBox, invSBox}
+use Rattle.field.specs.SBox.{bitsOf, affine, invAffine, sBox, invSBox, SBoxRules}
 
 -- ---- values are bytes
 
@@ -75,20 +75,31 @@ test = tt
 rules : (v : ℕ) → v < 256 → found (table sBox 256) (table invSBox 256) v ≡ right v
 rules = same (found (table sBox 256) (table invSBox 256)) right 256 test
 
--- each undoes the other
-pub sBox-invSBox : (v : ℕ) → v < 256 → sBox (invSBox v) ≡ v
-unfolding found right
-sBox-invSBox v h =
-    sym (ap (λ (k : ℕ). getD (table sBox 256) k 0) (getD-table invSBox 256 v h) ∙ getD-table sBox 256 (invSBox v) (invSBox-byte v))
-    ∙ ap (λ (s : List ℕ). getD s 0 0) (rules v h)
-
-pub invSBox-sBox : (v : ℕ) → v < 256 → invSBox (sBox v) ≡ v
-unfolding found right
-invSBox-sBox v h =
-    sym (ap (λ (k : ℕ). getD (table invSBox 256) k 0) (getD-table sBox 256 v h) ∙ getD-table invSBox 256 (sBox v) (sBox-byte v))
-    ∙ ap (λ (s : List ℕ). getD s 1 0) (rules v h)
-
 -- v • v⁻¹ is 01 for every byte but 00
-pub inverse-law : (v : ℕ) → 0 < v → v < 256 → mul v (inverse v) ≡ 1
+inverse-law : (v : ℕ) → 0 < v → v < 256 → mul v (inverse v) ≡ 1
 unfolding found right
 inverse-law v p h = ap (λ (s : List ℕ). getD s 2 0) (rules v h) ∙ omega arith
+
+zero-inverse : inverse 0 ≡ 0
+unfolding inverse squares mul mulBits xtime
+zero-inverse = refl
+
+pub s-box-rules : SBoxRules
+unfolding found right sBox
+s-box-rules =
+    record {
+      undone = λ v h. ap (λ (s : List ℕ). getD s 1 0) (rules v h);
+      undoes = λ v h. ap (λ (s : List ℕ). getD s 0 0) (rules v h);
+      affine-of = getD-table sBox 256;
+      inverse-zero = zero-inverse;
+      inverse-law = inverse-law;
+    }
+
+-- the same of the functions: each undoes the other
+pub sBox-invSBox : (v : ℕ) → v < 256 → sBox (invSBox v) ≡ v
+sBox-invSBox v h =
+    sym (ap (λ (k : ℕ). getD (table sBox 256) k 0) (getD-table invSBox 256 v h) ∙ getD-table sBox 256 (invSBox v) (invSBox-byte v)) ∙ s-box-rules .undoes v h
+
+pub invSBox-sBox : (v : ℕ) → v < 256 → invSBox (sBox v) ≡ v
+invSBox-sBox v h =
+    sym (ap (λ (k : ℕ). getD (table invSBox 256) k 0) (getD-table sBox 256 v h) ∙ getD-table invSBox 256 (sBox v) (sBox-byte v)) ∙ s-box-rules .undone v h

@@ -28,6 +28,6 @@ squares zero v r = r
 squares (suc n) v r = let w = mul v v in squares n w (mul r w)
 
 -- section 4.2: the multiplicative inverse, which is v^254 = v^2 v^4 .. v^128, and 00 for 00. That v • inverse v is 01 for
--- every other byte v is the law inverse-law of proofs/Rules.antt.
+-- every other byte v is a field of SBoxRules (specs/SBox).
 unfoldable pub inverse : ℕ → ℕ
 inverse v = squares 7 v 1

@@ -1,7 +1,10 @@
 -- The S-box of FIPS 197, section 5.1.1, and its inverse, section 5.3.2.
 -- Assumes nothing.
-use Prim.Native.Nat.{ℕ, zero, suc, _+_, _*_, _/_, _%_, _^_}
-use Rattle.field.specs.Field.{inverse}
+use mathlib.Core.Path.{_≡_}
+use Prim.Native.Nat.{ℕ, zero, suc, _+_, _*_, _/_, _%_, _^_, _<_}
+use lib.ListN.{getD}
+use Rattle.octets.specs.Strings.{table}
+use Rattle.field.specs.Field.{mul, inverse}
 
 -- bit i of v, the indices modulo 8
 abbrev pub bit : ℕ → ℕ → ℕ
@@ -27,3 +30,12 @@ sBox v = affine (inverse v)
 -- the inverse of the affine map, then the multiplicative inverse
 unfoldable pub invSBox : ℕ → ℕ
 invSBox v = inverse (invAffine v)
+
+-- the two rules of document 01, over all 256 entries of the tables: each box undoes the other, and S(v) is the affine map of v's inverse,
+-- where 00 maps to itself and every other byte times its inverse is 01
+pub record SBoxRules : Type 0 where
+  pub undone : (v : ℕ) → v < 256 → getD (table invSBox 256) (getD (table sBox 256) v 0) 0 ≡ v
+  pub undoes : (v : ℕ) → v < 256 → getD (table sBox 256) (getD (table invSBox 256) v 0) 0 ≡ v
+  pub affine-of : (v : ℕ) → v < 256 → getD (table sBox 256) v 0 ≡ affine (inverse v)
+  pub inverse-zero : inverse 0 ≡ 0
+  pub inverse-law : (v : ℕ) → 0 < v → v < 256 → mul v (inverse v) ≡ 1

@@ -48,9 +48,9 @@ abbrev pub RanByName : Ledger → List ℕ → ℕ → List ℕ → List ℕ →
 RanByName l N name M out r l′ out′ = LedgerCall (valueOf l) N (named name) M out r (valueOf l′) out′
 
 -- a keeping: its answer r and the next ledger l′
-abbrev pub Keeps : Ledger → ℕ → List ℕ → ℕ → Ledger → Type 0
-Keeps l name A r l′ = KeepCall (valueOf l) name A r (valueOf l′)
+abbrev pub RanKeeping : Ledger → ℕ → List ℕ → ℕ → Ledger → Type 0
+RanKeeping l name A r l′ = KeepCall (valueOf l) name A r (valueOf l′)
 
 -- a carrying: its answer r and the next ledger l′
-abbrev pub Carries : Ledger → ℕ → Ledger → Type 0
-Carries l r l′ = CarryCall (valueOf l) r (valueOf l′)
+abbrev pub RanCarrying : Ledger → ℕ → Ledger → Type 0
+RanCarrying l r l′ = CarryCall (valueOf l) r (valueOf l′)

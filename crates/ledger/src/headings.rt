@@ -28,7 +28,7 @@ ghost use Rattle.plain.specs.declared.sets.Set.the-variants.{Known};
 ghost use Rattle.plain.specs.Lookup.{lookupOf};
 ghost use Rattle.ledger_rules.specs.Ledger.{headingAt, isKept, badName, ledgerAnswer, keepAnswer, keeping, keptLedger};
 ghost use Rattle.ledger_rules.specs.Ledger.Source.{named};
-ghost use Rattle.ledger.specs.Values.{headingOf, valueOf, RanByName, Keeps};
+ghost use Rattle.ledger.specs.Values.{headingOf, valueOf, RanByName, RanKeeping};
 
 const NAMES: u32 = 8;
 
@@ -145,7 +145,7 @@ impl Ledger {
     // Keeps data under a name, in place of what was there, answers 0 and gives back the next ledger; or
     // answers the first that applies of 1, 13, 4 and 10, and the ledger is as it was.
     pub fn keep(self, name: u32, ad: &[u8]) -> Outcome
-        ensures { λ r. ⌜ Keeps self name (now (ad .entry)) (r .answer) (r .ledger) ⌝ }
+        ensures { λ r. ⌜ RanKeeping self name (now (ad .entry)) (r .answer) (r .ledger) ⌝ }
     {
         let Set::Known(p) = lookup(self.set) else {
             return Outcome {

@@ -47,13 +47,7 @@ pub struct Ledger {
     pub headings: [Heading; 8],
 }
 
-// A making's answer, and the ledger.
-pub struct Made {
-    pub answer: u32,
-    pub ledger: Ledger,
-}
-
-// A call's answer, and the next ledger.
+// A call's answer, and the next ledger; a making's, and the ledger that it gives.
 pub struct Outcome {
     pub answer: u32,
     pub ledger: Ledger,
@@ -101,24 +95,24 @@ fn begin(set: u32, key: &[u8], console: u16) -> Ledger
 }
 
 // Makes the ledger of a key and a console, and answers 0, or answers 1 or 2.
-pub fn make(set: u32, key: &[u8], console: u16) -> Made
+pub fn make(set: u32, key: &[u8], console: u16) -> Outcome
     ensures { λ r. ⌜ r .answer ≡ makeAnswer set (now (key .entry)) ⌝ }
     ensures { λ r. ⌜ valueOf (r .ledger) ≡ madeLedger set (now (key .entry)) console ⌝ }
 {
     let Set::Known(p) = lookup(set) else {
-        return Made {
+        return Outcome {
             answer: 1,
             ledger: none(),
         };
     };
     let refusal = key_check(p, key.len());
     if refusal != 0 {
-        return Made {
+        return Outcome {
             answer: refusal,
             ledger: none(),
         };
     }
-    Made {
+    Outcome {
         answer: 0,
         ledger: begin(set, key, console),
     }

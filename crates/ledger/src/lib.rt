@@ -7,7 +7,6 @@ mod ledger;
 
 pub use ledger::Heading;
 pub use ledger::Ledger;
-pub use ledger::Made;
 pub use ledger::NOTHING;
 pub use ledger::Outcome;
 pub use ledger::make;

@@ -11,7 +11,7 @@ use Rattle.cba_mode.specs.Charge.{oldCharge, charge}
 use Rattle.cba_rules.specs.Examples.{keyCalls, keysSo}
 use Rattle.ledger_rules.specs.Ledger.{noLedger, makeRows, consoleOf, stale, chargeBy, spent, headingAt, isName, isKept, sourceRow, sealCharge, ledgerRows, ledgerAnswer, keepRows, keepAnswer, carryRows, carryAnswer}
 use Rattle.ledger_rules.specs.Ledger.Source.{given, named}
-use Rattle.ledger_rules.specs.Examples.{sealings, namings, keepings, empties, carryings, sealsSo, zeros, keepsSo, emptiesSo, carriesSo}
+use Rattle.ledger_rules.specs.Examples.{sealings, namings, firsts, keepings, empties, carryings, sealsSo, firstsSo, zeros, keepsSo, emptiesSo, carriesSo, LedgerExamples}
 
 -- every number of the rows is in the table of all answers
 abbrev Listed : List Row → Type 0
@@ -22,25 +22,47 @@ pub in-the-table : Listed (makeRows 0 0) × Listed (ledgerRows noLedger [] (give
 unfolding allIn isIn numbers numbersOf makeRows ledgerRows sourceRow keepRows carryRows
 in-the-table = (refl, refl, refl, refl, refl)
 
-pub making-examples : keysSo makeRows keyCalls ≡ true
+makings : keysSo makeRows keyCalls ≡ true
 unfolding keysSo answer makeRows isSet column
-making-examples = refl
+makings = refl
 
-pub sealing-examples : (b : Bool) → (sealsSo b zeros sealings ≡ true) × (sealsSo b named namings ≡ true)
+first-ones : (b : Bool) → firstsSo b firsts ≡ true
+unfolding firstsSo ledgerAnswer ledgerRows sourceRow sealCharge consoleOf stale chargeBy spent answer isSet column charge oldCharge number
+first-ones true = refl
+first-ones false = refl
+
+by-value : (b : Bool) → sealsSo b zeros sealings ≡ true
+unfolding sealsSo ledgerAnswer ledgerRows sourceRow sealCharge consoleOf stale chargeBy spent answer isSet column charge oldCharge number
+by-value true = refl
+by-value false = refl
+
+by-name : (b : Bool) → sealsSo b named namings ≡ true
 unfolding sealsSo ledgerAnswer ledgerRows sourceRow sealCharge consoleOf stale chargeBy spent isKept isName headingAt answer isSet column charge oldCharge number
-sealing-examples true = (refl, refl)
-sealing-examples false = (refl, refl)
+by-name true = refl
+by-name false = refl
 
-pub keeping-examples : (b : Bool) → keepsSo b keepings ≡ true
+kept : (b : Bool) → keepsSo b keepings ≡ true
 unfolding keepsSo keepAnswer keepRows chargeBy spent isName answer isSet column charge oldCharge
-keeping-examples true = refl
-keeping-examples false = refl
+kept true = refl
+kept false = refl
 
-pub empty-examples : emptiesSo empties ≡ true
+nothing-counted : emptiesSo empties ≡ true
 unfolding emptiesSo keepAnswer keepRows ledgerAnswer ledgerRows sourceRow sealCharge consoleOf stale chargeBy spent isKept isName headingAt answer isSet column charge oldCharge number
-empty-examples = refl
+nothing-counted = refl
 
-pub carrying-examples : (b : Bool) → carriesSo b carryings ≡ true
+carried : (b : Bool) → carriesSo b carryings ≡ true
 unfolding carriesSo carryAnswer carryRows answer isSet column
-carrying-examples true = refl
-carrying-examples false = refl
+carried true = refl
+carried false = refl
+
+pub examples : LedgerExamples
+examples =
+    record {
+      makings-so = makings;
+      firsts-so = first-ones;
+      sealings-so = by-value;
+      namings-so = by-name;
+      keepings-so = kept;
+      empties-so = nothing-counted;
+      carryings-so = carried;
+    }

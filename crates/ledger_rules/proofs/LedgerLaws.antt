@@ -1,6 +1,6 @@
 -- What a making, a sealing of either kind, a keeping and a carrying on a ledger answer, and what they leave.
 -- Assumes nothing.
-use mathlib.Core.Path.{_≡_, refl, sym, ap, ap₂, _∙_}
+use mathlib.Core.Path.{_≡_, refl, sym, ap, ap₂, subst, _∙_}
 use mathlib.Core.Bool.{Bool, true, false, false≢true}
 use mathlib.Core.List.{List, [], _∷_, _++_}
 use Prim.Native.Nat.{ℕ, _+_, _^_, _<_, _≤_}
@@ -23,6 +23,7 @@ use Rattle.cba_rules.proofs.SetLaws.{set-fits, capacity-least}
 use Rattle.cba_rules.proofs.RefusalLaws.{Seals, is-length, has-length, key-passed, message-passes, message-passed, seal-untouched, seal-accepts}
 use Rattle.ledger_rules.specs.Ledger.{Ledger, noLedger, fresh, makeRows, makeAnswer, madeLedger, keyOf, consoleOf, nonceRows, stale, chargeBy, spent, ownRows, headingAt, isName, isKept, Source, sourceRow, sealCharge, ledgerChecks, ledgerRows, ledgerAnswer, charged, nextLedger, ledgerSealing, ledgerOutput, LedgerCall, keepCharge, keepRows, keepAnswer, sumOf, keeping, keptLedger, carryRows, carryAnswer, withCharge, carriedLedger}
 use Rattle.ledger_rules.specs.Ledger.Source.{given, named}
+use Rattle.ledger_rules.specs.Runs.{Blank}
 
 -- ---- making
 
@@ -39,6 +40,11 @@ module _ (set : ℕ) (key : List ℕ) where
   pub made-none : (console : ℕ) → (makeAnswer set key ≡ 0 → ⊥) → madeLedger set key console ≡ noLedger
   unfolding madeLedger
   made-none console n = rw (ne-eqb (makeAnswer set key) 0 n) refl
+
+  pub made-blank : (console : ℕ) → (makeAnswer set key ≡ 0 → ⊥) → Blank (madeLedger set key console)
+  made-blank console n =
+      subst Blank (sym (made-none console n))
+      (record { set-is = refl; key-is = refl; console-is = refl; total-is = refl; charge-is = refl; begun-is = refl; last-is = refl; headings-are = refl })
 
 -- ---- the capacity
 
@@ -296,6 +302,11 @@ module _ (l : Ledger) where
       go : (x : Bool) → eqb (carryAnswer l) 0 ≡ x → carriedLedger l ≡ l
       go true e = rw e (ap (λ (b : Bool). withCharge b l) (sym h))
       go false e = rw e refl
+
+  -- it is accepted wherever there is a set
+  pub carry-set : isSet (l .set) ≡ true → carryAnswer l ≡ 0
+  unfolding carryAnswer carryRows answer
+  carry-set s = rw s refl
 
   pub carried-refused : (carryAnswer l ≡ 0 → ⊥) → carriedLedger l ≡ l
   unfolding carriedLedger

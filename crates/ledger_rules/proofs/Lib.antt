@@ -1,5 +1,5 @@
 pub mod Examples
 pub mod LedgerLaws
 pub mod Runs
-pub mod Capacity
+pub mod FillingLaws
 pub mod Theorems

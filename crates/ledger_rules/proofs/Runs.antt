@@ -13,9 +13,11 @@ use lib.Dec.{eqb, leb}
 use lib.ListN.{length, length-set}
 use lib.Seq.{getD-set-same, getD-set-other}
 use Rattle.octets.specs.Numbers.{number}
+use Rattle.answers.specs.Calls.{Gave, InTurn, ByList}
+use Rattle.answers.proofs.CallLaws.{by-list}
 use Rattle.cba_mode.specs.Sets.{capacity}
 use Rattle.ledger_rules.specs.Ledger.{Heading, Ledger, keyOf, consoleOf, stale, headingAt, isName, charged, sumOf, keeping, withCharge}
-use Rattle.ledger_rules.specs.Runs.{Call, Sealing, Keeping, answerOn, after, outOf, outputOn, chargeOf, run, accepted, charges, beforeCarrying, sinceCarrying, NoCarrying, added, nonces, lastKept, RisingFrom, Rising, Among}
+use Rattle.ledger_rules.specs.Runs.{Call, Sealing, Keeping, answerOn, after, outOf, outputOn, gives, Promised, chargeOf, run, accepted, charges, beforeCarrying, sinceCarrying, NoCarrying, added, nonces, lastKept, RisingFrom, Rising, Among, SameMaking}
 use Rattle.ledger_rules.specs.Runs.Call.{seals, keeps, carries}
 use Rattle.ledger_rules.proofs.LedgerLaws.{total-within, ledger-accepted, ledger-refused, next-accepted, keep-accepted, kept-refused, kept-accepted, carried-refused, carried-accepted}
 
@@ -88,11 +90,36 @@ module _ (P : Ledger → Ledger → List Call → Type 0) (start : (l : Ledger) 
   by-calls [] l = start l
   by-calls (c ∷ cs) l = on-answer l c cs (λ m. by-calls cs m)
 
+pub run-append : (l : Ledger) (xs ys : List Call) → run l (xs ++ ys) ≡ run (run l xs) ys
+unfolding run
+run-append l [] ys = refl
+run-append l (x ∷ xs) ys = run-append (after l x) xs ys
+
+-- ---- set, key and console
+
+one-same : (l m : Ledger) (c : Call) (cs : List Call) → answerOn l c ≡ 0 → SameMaking (done l c) m → SameMaking l m
+one-same l m (seals s) cs e h = record { set-stays = h .set-stays; key-stays = h .key-stays; console-stays = h .console-stays }
+one-same l m (keeps k) cs e h = record { set-stays = h .set-stays; key-stays = h .key-stays; console-stays = h .console-stays }
+one-same l m carries cs e h = record { set-stays = h .set-stays; key-stays = h .key-stays; console-stays = h .console-stays }
+
+pub same-making : (cs : List Call) (l : Ledger) → SameMaking l (run l cs)
+same-making = by-calls (λ l m cs. SameMaking l m) (λ l. record { set-stays = refl; key-stays = refl; console-stays = refl }) one-same
+
+-- ---- calls made one after the other
+
+all-given : (l : Ledger) (c : Call) (g : Gave Ledger) → Promised l c g → g ≡ gives l c
+unfolding answerOn after outputOn
+all-given l (seals s) g p = rw (sym (p .answer-is), sym (p .next-is), sym (p .output-is)) refl
+all-given l (keeps k) g p = rw (sym (p .0 .answer-is), sym (p .0 .next-is), sym (p .1)) refl
+all-given l carries g p = rw (sym (p .0 .answer-is), sym (p .0 .next-is), sym (p .1)) refl
+
+pub in-turn : (l : Ledger) (cs : List Call) (gs : List (Gave Ledger)) → InTurn Promised l cs gs → ByList gives run l cs gs
+unfolding run
+in-turn = by-list Promised gives run all-given (λ l. refl) (λ l c cs. refl)
+
 -- ---- the total
 
 pub record Sums (l m : Ledger) (cs : List Call) : Type 0 where
-  pub set-stays : m .set ≡ l .set
-  pub key-stays : m .key ≡ l .key
   pub charge-stays : l .heartbeats ≡ true → m .heartbeats ≡ true
   pub sum : m .total ≡ l .total + added l cs
   pub within : l .total ≤ 2 ^ capacity (l .set) → m .total ≤ 2 ^ capacity (l .set)
@@ -101,14 +128,12 @@ one-sum : (l m : Ledger) (c : Call) (cs : List Call) → answerOn l c ≡ 0 → 
 unfolding answerOn chargeOf charges beforeCarrying sinceCarrying
 one-sum l m (seals s) cs e h =
     let w = total-within l _ (ledger-accepted l (s .nonce) (s .source) (length (s .message)) (length (s .out)) e .not-spent) in
-    record { set-stays = h .set-stays; key-stays = h .key-stays; charge-stays = h .charge-stays; sum = h .sum ∙ omega arith; within = λ k. h .within w }
+    record { charge-stays = h .charge-stays; sum = h .sum ∙ omega arith; within = λ k. h .within w }
 one-sum l m (keeps k) cs e h =
     let w = total-within l _ (keep-accepted l (k .name) (length (k .ad)) e .not-spent) in
-    record { set-stays = h .set-stays; key-stays = h .key-stays; charge-stays = h .charge-stays; sum = h .sum ∙ omega arith; within = λ k. h .within w }
+    record { charge-stays = h .charge-stays; sum = h .sum ∙ omega arith; within = λ k. h .within w }
 one-sum l m carries cs e h =
     record {
-      set-stays = h .set-stays;
-      key-stays = h .key-stays;
       charge-stays = λ b. h .charge-stays refl;
       sum = h .sum ∙ omega (arith, in-two true cs);
       within = h .within;
@@ -116,7 +141,7 @@ one-sum l m carries cs e h =
 
 pub sums : (cs : List Call) (l : Ledger) → Sums l (run l cs) (accepted l cs)
 unfolding charges beforeCarrying sinceCarrying
-sums = by-calls Sums (λ l. record { set-stays = refl; key-stays = refl; charge-stays = λ b. b; sum = omega arith; within = λ k. k }) one-sum
+sums = by-calls Sums (λ l. record { charge-stays = λ b. b; sum = omega arith; within = λ k. k }) one-sum
 
 -- ---- the nonces
 

@@ -1,18 +1,20 @@
 -- Example calls on a ledger: one fault each, then each with all that follow it, and the answer; calls with nothing to count, with either
 -- charge; carryings.
 -- Assumes nothing.
+use mathlib.Core.Path.{_≡_}
 use mathlib.Core.Bool.{Bool, true, false, _&&_}
 use mathlib.Core.List.{List, [], _∷_, _++_}
 use Prim.Native.Nat.{ℕ, _-_}
 use lib.Dec.{eqb}
 use lib.ListN.{getD, take, replicate}
 use Rattle.answers.specs.Rows.{answer}
-use Rattle.ledger_rules.specs.Ledger.{Ledger, noHeadings, Source, ledgerAnswer, keepAnswer, carryAnswer}
+use Rattle.cba_rules.specs.Examples.{keyCalls, keysSo}
+use Rattle.ledger_rules.specs.Ledger.{Ledger, noHeadings, makeRows, fresh, Source, ledgerAnswer, keepAnswer, carryAnswer}
 use Rattle.ledger_rules.specs.Ledger.Source.{given, named}
 
 -- a nonce of so many bytes: the first two and the last, zeros between
-abbrev nonceOf : ℕ → ℕ → ℕ → ℕ → List ℕ
-nonceOf n first second last = take n (first ∷ second ∷ (replicate (n - 3) 0 ++ (last ∷ [])))
+abbrev exampleNonce : ℕ → ℕ → ℕ → ℕ → List ℕ
+exampleNonce n first second last = take n (first ∷ second ∷ (replicate (n - 3) 0 ++ (last ∷ [])))
 
 -- a ledger with either charge, of a set, a console and a total, begun, whose last nonce is the number 1: the nonce of another console, but
 -- for console 0; something is kept under the name 7
@@ -25,7 +27,7 @@ at heartbeats set console total =
       total = total;
       heartbeats = heartbeats;
       begun = true;
-      last = nonceOf 12 0 0 1;
+      last = exampleNonce 12 0 0 1;
       headings = lib.ListN.set noHeadings 7 (record { kept = true; sum = replicate 16 0 });
     }
 
@@ -78,8 +80,18 @@ unfoldable pub sealsSo : Bool → (ℕ → Source) → List (List ℕ) → Bool
 sealsSo heartbeats source [] = true
 sealsSo heartbeats source (c ∷ cs) =
     let l = at heartbeats (getD c 1 0) (getD c 2 0) (getD c 3 0) in
-    let N = nonceOf (getD c 4 0) (getD c 5 0) (getD c 6 0) (getD c 7 0) in
+    let N = exampleNonce (getD c 4 0) (getD c 5 0) (getD c 6 0) (getD c 7 0) in
     eqb (ledgerAnswer l N (source (getD c 8 0)) (getD c 9 0) (getD c 10 0)) (getD c 0 0) && sealsSo heartbeats source cs
+
+-- the first on a fresh ledger: the answer, then set, data, message and room
+abbrev pub firsts : List (List ℕ)
+firsts = (0 ∷ 1 ∷ 4096 ∷ 65536 ∷ 65540 ∷ []) ∷ (0 ∷ 1 ∷ 0 ∷ 0 ∷ 4 ∷ []) ∷ (0 ∷ 10 ∷ 0 ∷ 0 ∷ 12 ∷ []) ∷ (7 ∷ 10 ∷ 0 ∷ 0 ∷ 11 ∷ []) ∷ []
+
+unfoldable pub firstsSo : Bool → List (List ℕ) → Bool
+firstsSo heartbeats [] = true
+firstsSo heartbeats (c ∷ cs) =
+    let l = fresh heartbeats (getD c 1 0) [] 0 in
+    eqb (ledgerAnswer l (exampleNonce 12 0 0 0) (given (replicate (getD c 2 0) 0)) (getD c 3 0) (getD c 4 0)) (getD c 0 0) && firstsSo heartbeats cs
 
 -- data of so many bytes
 abbrev pub zeros : ℕ → Source
@@ -113,7 +125,7 @@ empties = (65535 ∷ 0 ∷ 0 ∷ []) ∷ (65536 ∷ 0 ∷ 10 ∷ []) ∷ (65537 
 -- a sealing of each kind and a keeping answer a
 abbrev answerSo : Ledger → ℕ → Bool
 answerSo l a =
-    let N = nonceOf 12 0 0 2 in
+    let N = exampleNonce 12 0 0 2 in
     eqb (ledgerAnswer l N (given []) 0 4) a && eqb (ledgerAnswer l N (named 7) 0 4) a && eqb (keepAnswer l 7 0) a
 
 unfoldable pub emptiesSo : List (List ℕ) → Bool
@@ -121,10 +133,28 @@ emptiesSo [] = true
 emptiesSo (c ∷ cs) =
     answerSo (at false 1 0 (getD c 0 0)) (getD c 1 0) && answerSo (at true 1 0 (getD c 0 0)) (getD c 2 0) && emptiesSo cs
 
--- carryings: the answer, then the set
+-- carryings: the answer, then set and total; a full ledger is carried too, and one that is over-full
 abbrev pub carryings : List (List ℕ)
-carryings = (0 ∷ 1 ∷ []) ∷ (0 ∷ 10 ∷ []) ∷ (1 ∷ 0 ∷ []) ∷ (1 ∷ 11 ∷ []) ∷ (1 ∷ 4294967295 ∷ []) ∷ []
+carryings =
+    (0 ∷ 1 ∷ 0 ∷ [])
+    ∷ (0 ∷ 10 ∷ 0 ∷ [])
+    ∷ (0 ∷ 1 ∷ 1 ∷ [])
+    ∷ (0 ∷ 1 ∷ 65536 ∷ [])
+    ∷ (0 ∷ 1 ∷ 18446744073709551615 ∷ [])
+    ∷ (1 ∷ 0 ∷ 0 ∷ [])
+    ∷ (1 ∷ 11 ∷ 0 ∷ [])
+    ∷ (1 ∷ 4294967295 ∷ 65536 ∷ [])
+    ∷ []
 
 unfoldable pub carriesSo : Bool → List (List ℕ) → Bool
 carriesSo heartbeats [] = true
-carriesSo heartbeats (c ∷ cs) = eqb (carryAnswer (at heartbeats (getD c 1 0) 0 0)) (getD c 0 0) && carriesSo heartbeats cs
+carriesSo heartbeats (c ∷ cs) = eqb (carryAnswer (at heartbeats (getD c 1 0) 0 (getD c 2 0))) (getD c 0 0) && carriesSo heartbeats cs
+
+pub record LedgerExamples : Type 0 where
+  pub makings-so : keysSo makeRows keyCalls ≡ true
+  pub firsts-so : (b : Bool) → firstsSo b firsts ≡ true
+  pub sealings-so : (b : Bool) → sealsSo b zeros sealings ≡ true
+  pub namings-so : (b : Bool) → sealsSo b named namings ≡ true
+  pub keepings-so : (b : Bool) → keepsSo b keepings ≡ true
+  pub empties-so : emptiesSo empties ≡ true
+  pub carryings-so : (b : Bool) → carriesSo b carryings ≡ true

@@ -23,8 +23,8 @@ pub record Heading : Type 0 where
   pub sum : List ℕ
 
 -- the set, the key with zeros after it up to 32 bytes, the number of the console that seals, the total of blocks charged, whether a
--- sealing or keeping with nothing to count is charged a block (document 02's heartbeat is such a sealing), the last accepted nonce, where
--- one has begun it, and what is kept under the eight names
+-- sealing or keeping with nothing to count is charged a block (document 02's heartbeat is such a sealing), whether a nonce was accepted
+-- and the last that was, and what is kept under the eight names
 pub record Ledger : Type 0 where
   pub set : ℕ
   pub key : List ℕ

@@ -7,14 +7,16 @@ use mathlib.Core.Logic.{_⊎_}
 use mathlib.Core.Option.{Option, none, some}
 use Prim.Native.Nat.{ℕ, zero, suc, _+_, _^_, _<_, _≤_}
 use lib.Dec.{eqb}
-use lib.ListN.{length}
+use lib.ListN.{length, replicate}
 use Rattle.octets.specs.Numbers.{number, digits}
 use Rattle.answers.specs.Rows.{Decides}
-use Rattle.cba_mode.specs.Sets.{capacity}
+use Rattle.answers.specs.Calls.{Gave, InTurn, ByList}
+use Rattle.cba_mode.specs.Sets.{isSet, capacity}
 use Rattle.cba_rules.specs.Checks.{setTag}
 use Rattle.cba_rules.specs.Refusals.{SealCall}
-use Rattle.ledger_rules.specs.Ledger.{Ledger, noLedger, makeRows, makeAnswer, fresh, madeLedger, keyOf, consoleOf, isKept, Source, sealCharge, ledgerRows, ledgerAnswer, nextLedger, ledgerOutput, keepCharge, keepRows, keepAnswer, keptLedger, carryRows, carryAnswer, withCharge, carriedLedger}
+use Rattle.ledger_rules.specs.Ledger.{Ledger, noHeadings, makeRows, makeAnswer, fresh, madeLedger, keyOf, consoleOf, isKept, Source, sealCharge, ledgerRows, ledgerAnswer, nextLedger, ledgerOutput, LedgerCall, keepCharge, keepRows, keepAnswer, keptLedger, KeepCall, carryRows, carryAnswer, withCharge, carriedLedger, CarryCall}
 use Rattle.ledger_rules.specs.Ledger.Source.{given, named}
+use Rattle.ledger_rules.specs.Examples.{LedgerExamples}
 
 -- what one sealing is given
 pub record Sealing : Type 0 where
@@ -55,6 +57,15 @@ unfoldable pub outputOn : Ledger → Call → List ℕ
 outputOn l (seals s) = ledgerOutput l (s .nonce) (s .source) (s .message) (s .out)
 outputOn l (keeps k) = []
 outputOn l carries = []
+
+-- what a call gives, and what its contract promises of it
+abbrev pub gives : Ledger → Call → Gave Ledger
+gives l c = record { answer = answerOn l c; next = after l c; out = outputOn l c }
+
+abbrev pub Promised : Ledger → Call → Gave Ledger → Type 0
+Promised l (seals s) g = LedgerCall l (s .nonce) (s .source) (s .message) (s .out) (g .answer) (g .next) (g .out)
+Promised l (keeps k) g = KeepCall l (k .name) (k .ad) (g .answer) (g .next) × (g .out ≡ [])
+Promised l carries g = CarryCall l (g .answer) (g .next) × (g .out ≡ [])
 
 -- what an accepted call charges, on a ledger that charges heartbeats or not
 unfoldable pub chargeOf : Bool → Call → ℕ
@@ -133,6 +144,23 @@ abbrev pub Among : List ℕ → List (List ℕ) → Type 0
 Among N [] = ⊥
 Among N (K ∷ Ns) = (N ≡ K) ⊎ Among N Ns
 
+-- what a refused making gives: zeros in every field, no nonce and no heading
+pub record Blank (l : Ledger) : Type 0 where
+  pub set-is : l .set ≡ 0
+  pub key-is : l .key ≡ replicate 32 0
+  pub console-is : l .console ≡ 0
+  pub total-is : l .total ≡ 0
+  pub charge-is : l .heartbeats ≡ false
+  pub begun-is : l .begun ≡ false
+  pub last-is : l .last ≡ replicate 12 0
+  pub headings-are : l .headings ≡ noHeadings
+
+-- two ledgers of one set, key and console
+pub record SameMaking (l l′ : Ledger) : Type 0 where
+  pub set-stays : l′ .set ≡ l .set
+  pub key-stays : l′ .key ≡ l .key
+  pub console-stays : l′ .console ≡ l .console
+
 -- what a list of calls from l counts
 pub record Counted (l : Ledger) (cs : List Call) : Type 0 where
   pub total : run l cs .total ≡ added l (accepted l cs)
@@ -167,6 +195,8 @@ pub record ByName (l : Ledger) (set : ℕ) (key : List ℕ) (cs : List Call) (na
   pub plain : SealCall set key N ad M out 0 (ledgerOutput (run l cs) N (named name) M out)
 
 pub record LedgerTheorems : Type 0 where
+  -- the tables of example calls, by computation
+  pub examples : LedgerExamples
   -- a making, a sealing of either kind, a keeping and a carrying answer by their rows, on any ledger
   pub making : (set : ℕ) (key : List ℕ) → Decides (makeRows set (length key)) (makeAnswer set key)
   pub sealing : (l : Ledger) (N : List ℕ) (S : Source) (message out : ℕ) →
@@ -177,7 +207,12 @@ pub record LedgerTheorems : Type 0 where
   pub not-name : (l : Ledger) (N A : List ℕ) (message out : ℕ) → ledgerAnswer l N (given A) message out ≡ 13 → ⊥
   -- a making that is not refused gives a fresh ledger with the new charge; a refused one has zeros in every field
   pub made : (set : ℕ) (key : List ℕ) (console : ℕ) → makeAnswer set key ≡ 0 → madeLedger set key console ≡ fresh true set key console
-  pub unmade : (set : ℕ) (key : List ℕ) (console : ℕ) → (makeAnswer set key ≡ 0 → ⊥) → madeLedger set key console ≡ noLedger
+  pub unmade : (set : ℕ) (key : List ℕ) (console : ℕ) → (makeAnswer set key ≡ 0 → ⊥) → Blank (madeLedger set key console)
+  -- along every list of calls, on any ledger, set, key and console stay
+  pub same-making : (l : Ledger) (cs : List Call) → SameMaking l (run l cs)
+  -- whoever makes the calls of a list one after the other, each as its contract promises, gets the answers and the outputs above, and has
+  -- the ledger after the list
+  pub calls : (l : Ledger) (cs : List Call) (gs : List (Gave Ledger)) → InTurn Promised l cs gs → ByList gives run l cs gs
   -- for every list of calls from a fresh ledger with either charge
   pub counted : (b : Bool) (set : ℕ) (key : List ℕ) (console : ℕ) (cs : List Call) → Counted (fresh b set key console) cs
   -- with the new charge the total is the sum of the new charges; with the older one, where no carrying was accepted, that of the old ones
@@ -189,6 +224,11 @@ pub record LedgerTheorems : Type 0 where
   pub carried : (set : ℕ) (key : List ℕ) (console : ℕ) (cs before later : List Call) → NoCarrying before →
       accepted (fresh false set key console) cs ≡ before ++ (carries ∷ later) →
       run (fresh false set key console) cs .total ≡ charges false before + charges true later
+  -- the same by the list of calls: a carrying is accepted wherever there is a set, whatever came before it
+  pub carried-at : (set : ℕ) (key : List ℕ) (console : ℕ) (before later : List Call) → isSet set ≡ true → NoCarrying before →
+      let l = run (fresh false set key console) before in
+      run (fresh false set key console) (before ++ (carries ∷ later)) .total
+      ≡ charges false (accepted (fresh false set key console) before) + charges true (accepted (after l carries) later)
   -- a carrying, on any ledger, changes nothing but the charge; where it is accepted, that is then the new one
   pub only-charge : (l : Ledger) → withCharge (l .heartbeats) (after l carries) ≡ l
   pub new-charge : (l : Ledger) → carryAnswer l ≡ 0 → after l carries .heartbeats ≡ true
@@ -202,7 +242,11 @@ pub record LedgerTheorems : Type 0 where
   -- key; in a ledger value the key has 32 bytes
   pub plain : (l : Ledger) (N A M out : List ℕ) → length (l .key) ≡ 32 → ledgerAnswer l N (given A) (length M) (length out) ≡ 0 →
       SealCall (l .set) (keyOf l) N A M out 0 (ledgerOutput l N (given A) M out)
-  -- after every list of calls from a fresh ledger, an accepted sealing by name has those of plain sealing with the data last kept there
+  -- after every list of calls from a fresh ledger it has those under the set and the key of the making
+  pub by-value : (b : Bool) (set : ℕ) (key : List ℕ) (console : ℕ) (cs : List Call) (N A M out : List ℕ) → makeAnswer set key ≡ 0 →
+      let l = run (fresh b set key console) cs in
+      ledgerAnswer l N (given A) (length M) (length out) ≡ 0 → SealCall set key N A M out 0 (ledgerOutput l N (given A) M out)
+  -- and an accepted sealing by name has those of plain sealing with the data last kept there
   pub by-name : (b : Bool) (set : ℕ) (key : List ℕ) (console : ℕ) (cs : List Call) (name : ℕ) (N M out : List ℕ) →
       makeAnswer set key ≡ 0 → ledgerAnswer (run (fresh b set key console) cs) N (named name) (length M) (length out) ≡ 0 →
       ByName (fresh b set key console) set key cs name N M out
@@ -228,7 +272,7 @@ pub record LedgerTheorems : Type 0 where
   pub full : (b : Bool) (key : List ℕ) (console : ℕ) (M out : List ℕ) → Filling console 65536 M out →
       filled b key console 16 M out .total ≡ 65536
   -- then one block more is refused; an empty sealing is accepted with the older charge and refused with the new one
-  pub over : (b : Bool) (key : List ℕ) (console : ℕ) (M out : List ℕ) (room : ℕ) → Filling console 65536 M out → 5 ≤ room →
+  pub one-block-more : (b : Bool) (key : List ℕ) (console : ℕ) (M out : List ℕ) (room : ℕ) → Filling console 65536 M out → 5 ≤ room →
       ledgerAnswer (filled b key console 16 M out) (nonceOf console 17) (given []) 1 room ≡ 10
   pub nothing : (key : List ℕ) (console : ℕ) (M out : List ℕ) (room : ℕ) → Filling console 65536 M out → 4 ≤ room →
       ledgerAnswer (filled false key console 16 M out) (nonceOf console 17) (given []) 0 room ≡ 0

@@ -36,13 +36,22 @@ use script::long_number;
 use script::number;
 use script::print_number;
 use script::print_output;
-ghost use Rattle.ledger.specs.Values.{Ran};
+ghost use mathlib.Core.Path.{_≡_};
+ghost use Prim.Native.Nat.{_+_, _*_};
+ghost use lib.ListN.{length};
+ghost use Rattle.ledger_rules.specs.Ledger.{carriedLedger};
+ghost use Rattle.ledger.specs.Values.{valueOf, Ran};
+ghost use Rattle.ledger_script.specs.Records.{madeBy, putBy, heldBy, keptBy};
 
-fn short_number(a: u8, b: u8) -> u16 {
+fn short_number(a: u8, b: u8) -> u16
+    ensures { λ r. ⌜ r ≡ a * 256 + b ⌝ }
+{
     (a as u16) * 256 + b as u16
 }
 
-fn made(r: [u8; 64]) -> Ledger {
+fn made(r: [u8; 64]) -> Ledger
+    ensures { λ l. ⌜ valueOf l ≡ madeBy r ⌝ }
+{
     let end = 8 + least(r[7] as usize, 56);
     let set = number(r[1], r[2], r[3], r[4]);
     let console = short_number(r[5], r[6]);
@@ -55,7 +64,9 @@ fn made(r: [u8; 64]) -> Ledger {
     l
 }
 
-fn hand_made(r: [u8; 64]) -> Ledger {
+fn hand_made(r: [u8; 64]) -> Ledger
+    ensures { λ l. ⌜ valueOf l ≡ putBy r ⌝ }
+{
     let mut key = [0u8; 32];
     let mut last = [0u8; 12];
     octets::put(&mut key, &r[5..37]);
@@ -74,7 +85,9 @@ fn hand_made(r: [u8; 64]) -> Ledger {
     }
 }
 
-fn put(r: [u8; 64]) -> Ledger {
+fn put(r: [u8; 64]) -> Ledger
+    ensures { λ l. ⌜ valueOf l ≡ putBy r ⌝ }
+{
     let l = hand_made(r);
     print_call(1);
     print_ledger(l);
@@ -82,7 +95,9 @@ fn put(r: [u8; 64]) -> Ledger {
     l
 }
 
-fn hold(l: Ledger, r: [u8; 64]) -> Ledger {
+fn hold(l: Ledger, r: [u8; 64]) -> Ledger
+    ensures { λ next. ⌜ valueOf next ≡ heldBy (valueOf l) r ⌝ }
+{
     let i = least(r[1] as usize, 7);
     let mut sum = [0u8; 16];
     octets::put(&mut sum, &r[3..19]);
@@ -112,7 +127,9 @@ fn print_sealed(kind: u8, s: Outcome, out: &[u8]) {
 }
 
 // A keeping of data that have the record's length.
-fn keep(l: Ledger, r: [u8; 64], ad: &mut [u8]) -> Ledger {
+fn keep(l: Ledger, r: [u8; 64], ad: &mut [u8]) -> Ledger
+    ensures { λ next. ⌜ valueOf next ≡ keptBy (valueOf l) r (length (now (ad .entry))) ⌝ }
+{
     fill(ad, r[8]);
     let name = number(r[1], r[2], r[3], r[4]);
     let s = l.keep(name, ad);
@@ -128,7 +145,9 @@ fn keep_in(l: Ledger, r: [u8; 64], ad: &mut [u8]) -> Ledger {
     keep(l, r, &mut ad[..h])
 }
 
-fn carry(l: Ledger) -> Ledger {
+fn carry(l: Ledger) -> Ledger
+    ensures { λ next. ⌜ valueOf next ≡ carriedLedger (valueOf l) ⌝ }
+{
     let s = l.carry_over();
     print_outcome(7, s);
     show::line_end();

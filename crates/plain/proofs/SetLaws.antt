@@ -18,7 +18,7 @@ use Rattle.cba_rules.specs.Checks.{setTag, badSet, badKey, keyRows}
 use Rattle.cba_rules.proofs.SetLaws.{key-most}
 use Rattle.cba_rules.proofs.RefusalLaws.{key-passed}
 use Rattle.answers.specs.Rows.{Row, answer}
-use Rattle.plain.specs.Lookup.{lookupOf, numberOf, valuesOf, Lookups}
+use Rattle.plain.specs.Lookup.{lookupOf, numberOf, valuesOf, LooksUp}
 
 -- τ and b are bytes
 cut : ℕ → List ℕ
@@ -49,15 +49,6 @@ pub above-set : (n : ℕ) → 1 ≤ n → 10 < n → isSet n ≡ false
 unfolding isSet
 above-set n h k = ap₂ _&&_ (le-leb 1 n h) (lt-leb n 10 k)
 
-pub known : (n : ℕ) → 1 ≤ n → n ≤ 10 →
-    Known (record { key = column 0 n; tau = column 1 n % 256; capacity = column 2 n % 256 }) ≡ lookupOf n
-unfolding lookupOf
-known n h k = rw (is-set n h k) (ap₂ (λ (x y : ℕ). Known (record { key = column 0 n; tau = x; capacity = y })) (small n k .0) (small n k .1))
-
-pub unknown : (n : ℕ) → isSet n ≡ false → Unknown ≡ lookupOf n
-unfolding lookupOf
-unknown n h = rw h
-
 -- ---- the number and the values of each case
 
 number-at : (p : Parameters) (x : Bool) → numberOf (cond x (Known p) Unknown) ≡ cond (not x) 1 0
@@ -70,9 +61,20 @@ unfolding valuesOf
 values-at p true = refl
 values-at p false = refl
 
-pub lookups : Lookups
+looked-up : (n : ℕ) (r : Set) → r ≡ lookupOf n → LooksUp n r
 unfolding lookupOf answer
-lookups = record { number-is = λ n. number-at _ (isSet n); values-are = λ n. values-at _ (isSet n) }
+looked-up n r e =
+    record { case-is = e; number-is = ap numberOf e ∙ number-at _ (isSet n); values-are = ap valuesOf e ∙ values-at _ (isSet n) }
+
+pub known : (n : ℕ) → 1 ≤ n → n ≤ 10 → LooksUp n (Known (record { key = column 0 n; tau = column 1 n % 256; capacity = column 2 n % 256 }))
+unfolding lookupOf
+known n h k =
+    looked-up n _
+    (rw (is-set n h k) (ap₂ (λ (x y : ℕ). Known (record { key = column 0 n; tau = x; capacity = y })) (small n k .0) (small n k .1)))
+
+pub unknown : (n : ℕ) → isSet n ≡ false → LooksUp n Unknown
+unfolding lookupOf
+unknown n h = looked-up n Unknown (rw h refl)
 
 -- ---- a known set
 

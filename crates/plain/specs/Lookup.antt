@@ -24,7 +24,8 @@ unfoldable pub valuesOf : Set → List ℕ
 valuesOf (Known p) = p .key ∷ p .tau ∷ p .capacity ∷ []
 valuesOf Unknown = []
 
--- the number is what the table's first row answers, and the values are the set's
-pub record Lookups : Type 0 where
-  pub number-is : (n : ℕ) → numberOf (lookupOf n) ≡ answer (badSet n ∷ [])
-  pub values-are : (n : ℕ) → valuesOf (lookupOf n) ≡ cond (isSet n) (column 0 n ∷ column 1 n ∷ column 2 n ∷ []) []
+-- what the lookup of n gives: that case; its number is what the table's first row answers, and its values are the set's
+pub record LooksUp (n : ℕ) (r : Set) : Type 0 where
+  pub case-is : r ≡ lookupOf n
+  pub number-is : numberOf r ≡ answer (badSet n ∷ [])
+  pub values-are : valuesOf r ≡ cond (isSet n) (column 0 n ∷ column 1 n ∷ column 2 n ∷ []) []

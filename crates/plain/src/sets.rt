@@ -1,7 +1,6 @@
 // The parameter sets.
 use cba_steps::Parameters;
-ghost use mathlib.Core.Path.{_≡_};
-ghost use Rattle.plain.specs.Lookup.{lookupOf};
+ghost use Rattle.plain.specs.Lookup.{LooksUp};
 
 // What a set number yields: its parameters, or none where it is not 1 to 10.
 pub enum Set {
@@ -24,7 +23,7 @@ const SETS: [[u16; 3]; 10] = [
 ];
 
 pub fn lookup(set: u32) -> Set
-    ensures { λ r. ⌜ r ≡ lookupOf set ⌝ }
+    ensures { λ r. ⌜ LooksUp set r ⌝ }
 {
     if set < 1 {
         return Set::Unknown;

@@ -1,6 +1,6 @@
 -- What a making and an opening on a receiver answer, and what they leave.
 -- Assumes nothing.
-use mathlib.Core.Path.{_≡_, refl, sym, ap, _∙_}
+use mathlib.Core.Path.{_≡_, refl, sym, ap, subst, _∙_}
 use mathlib.Core.Bool.{Bool, true, false, false≢true}
 use mathlib.Core.List.{List, [], _∷_, _++_}
 use Prim.Native.Nat.{ℕ, _-_}
@@ -14,12 +14,12 @@ use Rattle.cba_mode.specs.Sets.{isSet, keyBytes}
 use Rattle.cba_mode.specs.Open.{isFalse, messageOf}
 use Rattle.cba_rules.specs.Checks.{setTag, badSet, badKey, badNonce, longData, forged, ciphertextRows, openRows}
 use Rattle.cba_rules.specs.Refusals.{opening, openAnswer, openLeaves, openOutput, OpenCall}
-use Rattle.cba_rules.proofs.SetLaws.{key-most}
-use Rattle.cba_rules.proofs.RefusalLaws.{has-length, false-leaves, open-untouched}
+use Rattle.cba_rules.proofs.SetLaws.{key-most, held-key}
+use Rattle.cba_rules.proofs.RefusalLaws.{key-passed, has-length, false-leaves, open-untouched}
 use Rattle.window_rules.specs.Window.{isRepeat}
 use Rattle.window_rules.proofs.WindowLaws.{none-yet}
-use Rattle.receiver_rules.specs.Receiver.{Receiver, noReceiver, makeAnswer, begin, madeReceiver, Fresh, keyOf, prefixOf, counterOf, badPrefix, repeated, receiverRows, receiverAnswer, withCounter, nextReceiver, receiverOutput, ReceiverCall}
-use Rattle.receiver_rules.specs.Runs.{Left}
+use Rattle.receiver_rules.specs.Receiver.{Receiver, noReceiver, makeRows, makeAnswer, begin, madeReceiver, Fresh, keyOf, prefixOf, counterOf, badPrefix, repeated, receiverRows, receiverAnswer, withCounter, nextReceiver, receiverOutput, ReceiverCall}
+use Rattle.receiver_rules.specs.Runs.{FreshFor, Blank, Left}
 
 -- ---- making
 
@@ -32,11 +32,26 @@ module _ (set : ℕ) (key : List ℕ) (prefix : ℕ) where
   unfolding madeReceiver
   made-none n = rw (ne-eqb (makeAnswer set key) 0 n) refl
 
+  pub made-fresh : makeAnswer set key ≡ 0 → FreshFor set key prefix (madeReceiver set key prefix)
+  unfolding makeAnswer makeRows keyOf
+  made-fresh e =
+      let p = key-passed set (length key) e in
+      let k = held-key set key (p .0) (p .1) in
+      subst (FreshFor set key prefix) (sym (made-so e))
+      (record { fresh = refl; set-is = refl; prefix-is = refl; key-length = k .0; key-is = k .1; highest-is = refl; marks-are = refl })
+
+  pub made-blank : (makeAnswer set key ≡ 0 → ⊥) → Blank (madeReceiver set key prefix)
+  made-blank n =
+      subst Blank (sym (made-none n))
+      (record { fresh = refl; set-is = refl; prefix-is = refl; key-is = refl; highest-is = refl; marks-are = refl })
+
 -- ---- opening
 
-pub none-answers : (N A C : List ℕ) (out : ℕ) → receiverAnswer noReceiver N A C out ≡ 1
+-- on what a refused making gave it answers 1
+pub none-answers : (set : ℕ) (key : List ℕ) (prefix : ℕ) (N A C : List ℕ) (out : ℕ) → (makeAnswer set key ≡ 0 → ⊥) →
+    receiverAnswer (madeReceiver set key prefix) N A C out ≡ 1
 unfolding receiverAnswer receiverRows answer isSet
-none-answers N A C out = refl
+none-answers set key prefix N A C out n = rw (made-none set key prefix n) refl
 
 -- a key of the set's length passes 2
 key-passes : (set : ℕ) (key : List ℕ) (rest : List Row) → (isSet set ≡ true → length key ≡ keyBytes set) →

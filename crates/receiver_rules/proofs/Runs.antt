@@ -8,14 +8,16 @@ use borrow.Author.Tests.{eqb-true, eqb-false, eq-eqb, ne-eqb}
 use lib.Dec.{eqb}
 use lib.ListN.{length}
 use Rattle.answers.specs.Rows.{isIn}
+use Rattle.answers.specs.Calls.{Gave, InTurn, ByList}
 use Rattle.answers.proofs.RowLaws.{or-right}
+use Rattle.answers.proofs.CallLaws.{by-list}
 use Rattle.window_rules.specs.Window.{Window, isRepeat, recorded, recordedAll}
 use Rattle.window_rules.specs.Theorems.{isTooLate, Holds}
 use Rattle.window_rules.proofs.WindowLaws.{one-more, all-of, none-yet}
 use Rattle.window_rules.proofs.HighestLaws.{holds-all}
-use Rattle.receiver_rules.specs.Receiver.{Receiver, Fresh, counterOf, withCounter}
-use Rattle.receiver_rules.specs.Runs.{Opening, answerOn, after, run, accepted, NoneTwice}
-use Rattle.receiver_rules.proofs.ReceiverLaws.{not-repeated, next-accepted, next-refused}
+use Rattle.receiver_rules.specs.Receiver.{Receiver, makeAnswer, madeReceiver, Fresh, keyOf, prefixOf, counterOf, withCounter}
+use Rattle.receiver_rules.specs.Runs.{Opening, answerOn, after, outputOn, gives, Promised, run, accepted, NoneTwice, FreshFor, SameMaking, AsPlain}
+use Rattle.receiver_rules.proofs.ReceiverLaws.{made-fresh, not-repeated, plain-call, new-call, next-accepted, next-refused}
 
 after-accepted : (v : Receiver) (o : Opening) → answerOn v o ≡ 0 → after v o ≡ withCounter v (counterOf (o .nonce))
 unfolding answerOn after
@@ -81,3 +83,50 @@ repeats-fresh v os c f = repeats-after v os c ∙ rw (none-yet (v .window) c f) 
 
 pub holds-accepted : (v : Receiver) (os : List Opening) (k : ℕ) (ks : List ℕ) → Fresh v → accepted v os ≡ k ∷ ks → Holds (run v os .window) (k ∷ ks)
 holds-accepted v os k ks f e = subst (λ (w : Window). Holds w (k ∷ ks)) (sym (window-after os v ∙ ap (recordedAll (v .window)) e)) (holds-all (v .window) k ks f)
+
+-- ---- from a making on
+
+pub same-making : (os : List Opening) (v : Receiver) → SameMaking v (run v os)
+same-making =
+    by-openings (λ v m ks. SameMaking v m) (λ v. record { set-stays = refl; key-stays = refl; prefix-stays = refl })
+    (λ v m o ks e h. record { set-stays = h .set-stays; key-stays = h .key-stays; prefix-stays = h .prefix-stays })
+
+module _ (set : ℕ) (key : List ℕ) (prefix : ℕ) (os : List Opening) (o : Opening) (e : makeAnswer set key ≡ 0) where
+  abbrev made : Receiver
+  made = madeReceiver set key prefix
+
+  -- an opening under the set and the key of the receiver after the list is one under those of the making
+  with-key : AsPlain (run made os .set) (keyOf (run made os)) (run made os) o → AsPlain set key (run made os) o
+  unfolding keyOf
+  with-key p =
+      let f = made-fresh set key prefix e in
+      let s = same-making os made in
+      let k : keyOf (run made os) ≡ keyOf made = rw (s .set-stays, s .key-stays) refl in
+      subst (λ (x : ℕ). AsPlain x key (run made os) o) (s .set-stays ∙ f .set-is)
+      (subst (λ (x : List ℕ). AsPlain (run made os .set) x (run made os) o) (k ∙ f .key-is) p)
+
+  key-after : length (run made os .key) ≡ 32
+  key-after = ap length (same-making os made .key-stays) ∙ made-fresh set key prefix e .key-length
+
+  pub listed-plain : (answerOn (run made os) o ≡ 12 → ⊥) → (answerOn (run made os) o ≡ 15 → ⊥) → AsPlain set key (run made os) o
+  unfolding answerOn outputOn
+  listed-plain n12 n15 = with-key (plain-call (run made os) (o .nonce) (o .ad) (o .ciphertext) (o .out) key-after n12 n15)
+
+  pub listed-new : let c = counterOf (o .nonce) in prefixOf (o .nonce) ≡ prefix → isIn c (accepted made os) || isTooLate c (accepted made os) ≡ false →
+      AsPlain set key (run made os) o
+  unfolding answerOn outputOn
+  listed-new p n =
+      let f = made-fresh set key prefix e in
+      with-key
+      (new-call (run made os) (o .nonce) (o .ad) (o .ciphertext) (o .out) (repeats-fresh made os (counterOf (o .nonce)) (f .fresh) ∙ n) key-after
+      (p ∙ sym (f .prefix-is) ∙ sym (same-making os made .prefix-stays)))
+
+-- ---- openings made one after the other
+
+all-given : (v : Receiver) (o : Opening) (g : Gave Receiver) → Promised v o g → g ≡ gives v o
+unfolding answerOn after outputOn
+all-given v o g p = rw (sym (p .answer-is), sym (p .next-is), sym (p .output-is)) refl
+
+pub in-turn : (v : Receiver) (os : List Opening) (gs : List (Gave Receiver)) → InTurn Promised v os gs → ByList gives run v os gs
+unfolding run
+in-turn = by-list Promised gives run all-given (λ v. refl) (λ v o os. refl)

@@ -7,12 +7,13 @@ use Prim.Native.Nat.{ℕ, _-_}
 use lib.Dec.{eqb}
 use lib.ListN.{length, drop, replicate}
 use Rattle.answers.specs.Rows.{isIn, Decides}
+use Rattle.answers.specs.Calls.{Gave, InTurn, ByList}
 use Rattle.cba_mode.specs.Open.{isFalse}
 use Rattle.cba_rules.specs.Checks.{setTag}
 use Rattle.cba_rules.specs.Refusals.{opening, OpenCall}
 use Rattle.window_rules.specs.Window.{isRepeat}
 use Rattle.window_rules.specs.Theorems.{isTooLate, Holds}
-use Rattle.receiver_rules.specs.Receiver.{Receiver, noReceiver, makeRows, makeAnswer, begin, madeReceiver, Fresh, keyOf, prefixOf, counterOf, receiverRows, receiverAnswer, withCounter, nextReceiver, receiverOutput, ReceiverCall}
+use Rattle.receiver_rules.specs.Receiver.{Receiver, noReceiver, makeRows, makeAnswer, madeReceiver, Fresh, keyOf, prefixOf, counterOf, receiverRows, receiverAnswer, withCounter, nextReceiver, receiverOutput, ReceiverCall}
 
 -- what one opening is given
 pub record Opening : Type 0 where
@@ -27,6 +28,17 @@ answerOn v o = receiverAnswer v (o .nonce) (o .ad) (o .ciphertext) (length (o .o
 -- the receiver after it
 unfoldable pub after : Receiver → Opening → Receiver
 after v o = nextReceiver v (o .nonce) (o .ad) (o .ciphertext) (length (o .out))
+
+-- the output at exit
+unfoldable pub outputOn : Receiver → Opening → List ℕ
+outputOn v o = receiverOutput v (o .nonce) (o .ad) (o .ciphertext) (o .out)
+
+-- what an opening gives, and what its contract promises of it
+abbrev pub gives : Receiver → Opening → Gave Receiver
+gives v o = record { answer = answerOn v o; next = after v o; out = outputOn v o }
+
+abbrev pub Promised : Receiver → Opening → Gave Receiver → Type 0
+Promised v o g = ReceiverCall v (o .nonce) (o .ad) (o .ciphertext) (o .out) (g .answer) (g .next) (g .out)
 
 -- the receiver after a list of openings
 unfoldable pub run : Receiver → List Opening → Receiver
@@ -43,6 +55,36 @@ abbrev pub NoneTwice : List ℕ → Type 0
 NoneTwice [] = Unit {0}
 NoneTwice (c ∷ cs) = (isIn c cs ≡ false) × NoneTwice cs
 
+-- what an accepted making with a set, a key and a prefix gives
+pub record FreshFor (set : ℕ) (key : List ℕ) (prefix : ℕ) (v : Receiver) : Type 0 where
+  pub fresh : Fresh v
+  pub set-is : v .set ≡ set
+  pub prefix-is : v .prefix ≡ prefix
+  -- the key has 32 bytes, and the bytes that an opening uses are the key given
+  pub key-length : length (v .key) ≡ 32
+  pub key-is : keyOf v ≡ key
+  pub highest-is : v .window .highest ≡ 0
+  pub marks-are : v .window .marks ≡ 0
+
+-- what a refused one gives: zeros in every field, and no counter
+pub record Blank (v : Receiver) : Type 0 where
+  pub fresh : Fresh v
+  pub set-is : v .set ≡ 0
+  pub prefix-is : v .prefix ≡ 0
+  pub key-is : v .key ≡ replicate 32 0
+  pub highest-is : v .window .highest ≡ 0
+  pub marks-are : v .window .marks ≡ 0
+
+-- two receivers of one set, key and prefix
+pub record SameMaking (v v′ : Receiver) : Type 0 where
+  pub set-stays : v′ .set ≡ v .set
+  pub key-stays : v′ .key ≡ v .key
+  pub prefix-stays : v′ .prefix ≡ v .prefix
+
+-- an opening on v has the answer and the output of plain opening under a set and a key
+abbrev pub AsPlain : ℕ → List ℕ → Receiver → Opening → Type 0
+AsPlain set key v o = OpenCall set key (o .nonce) (o .ad) (o .ciphertext) (o .out) (answerOn v o) (outputOn v o)
+
 -- what an opening that answers r leaves, out′ being the output at exit and v′ the next receiver
 pub record Left (v : Receiver) (N C out : List ℕ) (r : ℕ) (v′ : Receiver) (out′ : List ℕ) : Type 0 where
   -- every refusal but 8 leaves the output; 8 writes zeros over the first c − t bytes and leaves the others
@@ -57,10 +99,12 @@ pub record ReceiverTheorems : Type 0 where
   pub making : (set : ℕ) (key : List ℕ) → Decides (makeRows set (length key)) (makeAnswer set key)
   pub opens : (v : Receiver) (N A C : List ℕ) (out : ℕ) →
       Decides (receiverRows v N (length A) (length C) out (isFalse (opening (v .set) (keyOf v) N A C))) (receiverAnswer v N A C out)
-  -- a making that is not refused gives a fresh receiver; a refused one has zeros in every field, and an opening on it answers 1
-  pub made : (set : ℕ) (key : List ℕ) (prefix : ℕ) → makeAnswer set key ≡ 0 → madeReceiver set key prefix ≡ begin set key prefix
-  pub unmade : (set : ℕ) (key : List ℕ) (prefix : ℕ) → (makeAnswer set key ≡ 0 → ⊥) → madeReceiver set key prefix ≡ noReceiver
-  pub on-none : (N A C : List ℕ) (out : ℕ) → receiverAnswer noReceiver N A C out ≡ 1
+  -- a making that is not refused gives a fresh receiver with the set, the key and the prefix that it was given
+  pub made : (set : ℕ) (key : List ℕ) (prefix : ℕ) → makeAnswer set key ≡ 0 → FreshFor set key prefix (madeReceiver set key prefix)
+  -- a refused one has zeros in every field, and an opening on it answers 1
+  pub unmade : (set : ℕ) (key : List ℕ) (prefix : ℕ) → (makeAnswer set key ≡ 0 → ⊥) → Blank (madeReceiver set key prefix)
+  pub on-unmade : (set : ℕ) (key : List ℕ) (prefix : ℕ) (N A C : List ℕ) (out : ℕ) → (makeAnswer set key ≡ 0 → ⊥) →
+      receiverAnswer (madeReceiver set key prefix) N A C out ≡ 1
   -- what an opening leaves, on any receiver
   pub leaves : (v : Receiver) (N A C out : List ℕ) (r : ℕ) (v′ : Receiver) (out′ : List ℕ) → ReceiverCall v N A C out r v′ out′ →
       Left v N C out r v′ out′
@@ -88,3 +132,19 @@ pub record ReceiverTheorems : Type 0 where
   -- and where any was accepted, it holds the highest of them, and which of the 64 ending there were
   pub holds : (v : Receiver) (os : List Opening) (k : ℕ) (ks : List ℕ) → Fresh v → accepted v os ≡ k ∷ ks →
       Holds (run v os .window) (k ∷ ks)
+  -- along every list of openings, on any receiver, set, key and prefix stay
+  pub keeps : (v : Receiver) (os : List Opening) → SameMaking v (run v os)
+  -- so after every list on what a making gave, an opening not answered 12 or 15 is plain opening under the set and the key of the making
+  pub listed : (set : ℕ) (key : List ℕ) (prefix : ℕ) (os : List Opening) (o : Opening) → makeAnswer set key ≡ 0 →
+      let v = run (madeReceiver set key prefix) os in (answerOn v o ≡ 12 → ⊥) → (answerOn v o ≡ 15 → ⊥) → AsPlain set key v o
+  -- and so is each under the prefix of the making whose counter was not accepted, with none accepted that is 64 or more above it
+  pub listed-new : (set : ℕ) (key : List ℕ) (prefix : ℕ) (os : List Opening) (o : Opening) → makeAnswer set key ≡ 0 →
+      let made = madeReceiver set key prefix in
+      let c = counterOf (o .nonce) in
+      prefixOf (o .nonce) ≡ prefix → isIn c (accepted made os) || isTooLate c (accepted made os) ≡ false → AsPlain set key (run made os) o
+  -- at first every counter
+  pub takes-first : (set : ℕ) (key : List ℕ) (prefix : ℕ) (o : Opening) → makeAnswer set key ≡ 0 → prefixOf (o .nonce) ≡ prefix →
+      AsPlain set key (madeReceiver set key prefix) o
+  -- whoever makes the openings of a list one after the other, each as its contract promises, gets the answers and the outputs above, and
+  -- has the receiver after the list
+  pub calls : (v : Receiver) (os : List Opening) (gs : List (Gave Receiver)) → InTurn Promised v os gs → ByList gives run v os gs

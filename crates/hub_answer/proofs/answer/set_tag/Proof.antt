@@ -9,12 +9,12 @@ use Rattle.hub_answer.proofs.answer.set_tag.Tie as tie
 
 -- no set is unknown
 returns : tie.Need-returns
-returns c = let at = c .before .before .before in absurd (subst T (sym (at .pre) ∙ is-unknown (at .args .set) (sym (c .before .before .lookup .ensures) ∙ c .enum-told .given .1)) tt)
+returns c = let at = c .before .before .before in absurd (subst T (sym (at .pre) ∙ is-unknown (at .args .set) (sym (c .before .before .lookup .ensures .case-is) ∙ c .enum-told .given .1)) tt)
 
 returns-2 : tie.Need-returns-2
 returns-2 c =
     let p = c .before .before .p .given in
-    c .tag-bytes .ensures ∙ its-tag (c .before .before .before .before .before .args .set) (p .0 .0) (sym (c .before .before .before .before .lookup .ensures) ∙ p .1)
+    c .tag-bytes .ensures ∙ its-tag (c .before .before .before .before .before .args .set) (p .0 .0) (sym (c .before .before .before .before .lookup .ensures .case-is) ∙ p .1)
 
 pub set-tag-spec : {M : Type 1} → statement M
 set-tag-spec =

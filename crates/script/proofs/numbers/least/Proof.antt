@@ -1,16 +1,14 @@
 -- `script::numbers::least` meets its contract.
 -- Assumes nothing.
-use mathlib.Core.Path.{refl}
-use mathlib.Core.Logic.{inl, inr}
 use native.Mathlib.Omega.{arith}
 use Rattle.script.proofs.numbers.least.Statement.{statement}
 use Rattle.script.proofs.numbers.least.Tie as tie
 
 returns : tie.Need-returns
-returns c = (omega arith, omega arith, inl refl)
+returns c = (omega arith, omega arith, omega arith)
 
 returns-2 : tie.Need-returns-2
-returns-2 c = (omega arith, omega arith, inr refl)
+returns-2 c = (omega arith, omega arith, omega arith)
 
 pub least-spec : {M : Type 1} → statement M
 least-spec = tie.close (tie.spec returns returns-2)

@@ -8,10 +8,10 @@ use Rattle.ledger.proofs.ledger.Ledger.carry_over.Statement.{statement}
 use Rattle.ledger.proofs.ledger.Ledger.carry_over.Tie as tie
 
 returns : tie.Need-returns
-returns c = carry-unknown (valueOf (c .before .before .before .args .self)) (sym (c .before .before .lookup .ensures) ∙ c .enum-told2 .given .1)
+returns c = carry-unknown (valueOf (c .before .before .before .args .self)) (sym (c .before .before .lookup .ensures .case-is) ∙ c .enum-told2 .given .1)
 
 returns-2 : tie.Need-returns-2
-returns-2 c = carry-known (valueOf (c .before .before .before .args .self)) _ (sym (c .before .before .lookup .ensures) ∙ c .enum-told .given .1)
+returns-2 c = carry-known (valueOf (c .before .before .before .args .self)) _ (sym (c .before .before .lookup .ensures .case-is) ∙ c .enum-told .given .1)
 
 pub carry-over-spec : {M : Type 1} → statement M
 carry-over-spec = tie.close (tie.spec (λ c κs. search needs) (λ c. search needs) (λ c. search needs) returns returns-2)

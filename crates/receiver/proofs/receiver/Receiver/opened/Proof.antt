@@ -13,12 +13,12 @@ use Rattle.receiver.proofs.receiver.Receiver.opened.Tie as tie
 returns : tie.Need-returns
 returns c =
     let a = c .before .before .before .before .before .before .before .args in
-    unknown-refused (valueOf (a .self)) (a .nonce .now) (a .ad .now) (a .ciphertext .now) (a .out .now) (sym (c .before .before .lookup .ensures) ∙ c .enum-told .given .1)
+    unknown-refused (valueOf (a .self)) (a .nonce .now) (a .ad .now) (a .ciphertext .now) (a .out .now) (sym (c .before .before .lookup .ensures .case-is) ∙ c .enum-told .given .1)
 
 returns-2 : tie.Need-returns-2
 returns-2 c =
     let a = c .before .before .before .before .before .before .before .before .before .before .args in
-    let known = sym (c .before .before .before .before .before .lookup .ensures) ∙ c .before .before .before .p .given .1 in
+    let known = sym (c .before .before .before .before .before .lookup .ensures .case-is) ∙ c .before .before .before .p .given .1 in
     lengths-refused (valueOf (a .self)) _ known (a .nonce .now) (a .ad .now) (a .ciphertext .now) (a .out .now) (c .before .length-checks .ensures) (c .if1 .taken)
 
 counter-of-requires : tie.Need-counter-of-requires
@@ -31,7 +31,7 @@ returns-3 : tie.Need-returns-3
 returns-3 c =
     let at = c .before .before .before .before in
     let a = at .before .before .before .before .before .before .before .before .before .before .args in
-    let known = sym (at .before .before .before .before .before .lookup .ensures) ∙ at .before .before .before .p .given .1 in
+    let known = sym (at .before .before .before .before .before .lookup .ensures .case-is) ∙ at .before .before .before .p .given .1 in
     let new = c .before .is-repeat .ensures ∙ ap (isRepeat (windowOf (a .self .window))) (c .before .before .before .counter-of .ensures) in
     repeat-refused (valueOf (a .self)) _ known (a .nonce .now) (a .ad .now) (a .ciphertext .now) (a .out .now) (at .before .length-checks .ensures) (at .if1 .left) (sym new ∙ c .if2 .taken)
 
@@ -39,7 +39,7 @@ open-new-requires : tie.Need-open-new-requires
 open-new-requires c κs =
     let at = c .before .before .before .before .before in
     record {
-      known = sym (at .before .before .before .before .before .lookup .ensures) ∙ at .before .before .before .p .given .1;
+      known = sym (at .before .before .before .before .before .lookup .ensures .case-is) ∙ at .before .before .before .p .given .1;
       passes = sym (at .before .length-checks .ensures) ∙ at .if1 .left;
       counter-is = c .before .before .before .before .counter-of .ensures;
       new = sym (c .before .before .is-repeat .ensures) ∙ c .before .if2 .left;

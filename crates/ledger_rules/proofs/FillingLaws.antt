@@ -17,11 +17,7 @@ use Rattle.ledger_rules.specs.Ledger.{Ledger, fresh, consoleOf, stale, c
 use Rattle.ledger_rules.specs.Ledger.Source.{given}
 use Rattle.ledger_rules.specs.Runs.{Call, after, run, nonceOf, repeated, filled, Filling}
 use Rattle.ledger_rules.proofs.LedgerLaws.{Ready, ledger-accepts, ledger-spent, next-accepted}
-
-run-append : (l : Ledger) (xs ys : List Call) → run l (xs ++ ys) ≡ run (run l xs) ys
-unfolding run
-run-append l [] ys = refl
-run-append l (x ∷ xs) ys = run-append (after l x) xs ys
+use Rattle.ledger_rules.proofs.Runs.{run-append}
 
 -- the values of set 1
 set-one : (isSet 1 ≡ true) × (setTag 1 ≡ 4) × (2 ^ capacity 1 ≡ 65536)
