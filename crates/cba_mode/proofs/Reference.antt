@@ -1,11 +1,12 @@
 -- The definitions against the second implementation, over a block cipher that is quick to compute: thirteen messages, each
--- sealed and opened, of all forms and borders. The rows are what `reference toy` prints (tests/reference), which ./test compares.
+-- sealed and opened, of all forms and borders, and a string of the joined form that no message seals to. The rows are what
+-- `reference toy` prints (tests/reference), which ./test compares.
 -- Assumes nothing.
 use mathlib.Core.Bool.{Bool, true, false, _&&_}
 use mathlib.Core.List.{List, [], _∷_}
 use Prim.Native.Nat.{ℕ, _+_, _-_, _*_, _%_}
 use lib.Dec.{T}
-use lib.ListN.{getD}
+use lib.ListN.{getD, replicate}
 use Rattle.octets.specs.Strings.{eqs, table}
 use Rattle.octets.specs.Xor.{xors}
 use Rattle.octets.specs.Numbers.{number, digits}
@@ -15,7 +16,7 @@ use Rattle.cba_mode.specs.Data.{blockSum, withRest, dataSum, L, dataHash
 use Rattle.cba_mode.specs.Forms.{sealForm, openForm}
 use Rattle.cba_mode.specs.Seal
 use Rattle.cba_mode.specs.Seal.{checksum, cipherBlocks, R, masked, shortTag, joinedBlock, joinedLast, joinedEnd, joinedTail, lastBlock, lastOffset, separateTag, separateTail, sealAs, sealWith, ENC}
-use Rattle.cba_mode.specs.Open.{Opened, verified, check, after, plainBlocks, fromBlocks, joinedPlain, joinedRest, joinedAttempt, separateAttempt, attempt, openWith, DEC}
+use Rattle.cba_mode.specs.Open.{Opened, isFalse, verified, check, after, plainBlocks, fromBlocks, joinedPlain, joinedRest, joinedAttempt, separateAttempt, attempt, openWith, DEC}
 use Rattle.cba_mode.specs.Open.Opened.{opened, refused}
 
 -- E moves byte 5 i + 3 to place i and maps it by 7 x + 13 i + 1; D is its inverse, 183 being 1/7 and 13 being 1/5
@@ -54,6 +55,6 @@ rows =
     ∷ vector 96 48 (digits 12 0x222502d125a6628804eb2adc) (digits 7 0x9451674e7b000a) (digits 37 0x99926378332d0d223facf180e93712740d6e1bddb6ed377fcf0eb836720503ec160f5736c8) (digits 49 0xc25a5dd7ad54b88316fe7606be27fd6fb752f49324975a7d78af970affba8448e40cf724ed77f0726bdbbe20ca5433ee17)
     ∷ []
 
-test : T (all rows)
-unfolding E D is vector all rows xors number digits table doubled Offsets.two Offsets.three Offsets.four Offsets.five Offsets.six times F start offset pad leading lastBytes butLast blockSum withRest dataSum L dataHash tagOfData sealForm openForm checksum cipherBlocks R masked shortTag Seal.T joinedBlock joinedLast joinedEnd joinedTail lastBlock lastOffset separateTag separateTail sealAs sealWith verified check after plainBlocks fromBlocks joinedPlain joinedRest joinedAttempt separateAttempt attempt openWith
+test : T (isFalse (DEC E D 96 48 (replicate 12 0) [] (replicate 29 0)) && all rows)
+unfolding E D is isFalse vector all rows xors number digits table doubled Offsets.two Offsets.three Offsets.four Offsets.five Offsets.six times F start offset pad leading lastBytes butLast blockSum withRest dataSum L dataHash tagOfData sealForm openForm checksum cipherBlocks R masked shortTag Seal.T joinedBlock joinedLast joinedEnd joinedTail lastBlock lastOffset separateTag separateTail sealAs sealWith verified check after plainBlocks fromBlocks joinedPlain joinedRest joinedAttempt separateAttempt attempt openWith
 test = tt

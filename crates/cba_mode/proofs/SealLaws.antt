@@ -1,4 +1,5 @@
--- Lengths and bytes: T_A has t bytes, an offset is a block, a sealing is t bytes longer than its message.
+-- Lengths and bytes: T_A has t bytes, an offset is a block, a sealing is t bytes longer than its message. The rows of Reference are
+-- checked before these laws.
 -- Assumes nothing.
 use mathlib.Core.Path.{_≡_, refl, sym, subst, _∙_}
 use mathlib.Core.Bool.{Bool, true, false, cond}
@@ -18,6 +19,7 @@ use Rattle.cba_mode.specs.Data.{blockSum, withRest, dataSum, dataHash, t
 use Rattle.cba_mode.specs.Seal.{checksum, cipherBlocks, R, Δ₀, masked, shortTag, T, joinedBlock, joinedLast, joinedEnd, joinedTail, lastBlock, lastOffset, separateTag, separateTail, sealAs, sealWith}
 use Rattle.cba_mode.specs.Forms.{Form, fullBlocks, lastLength}
 use Rattle.cba_mode.specs.Forms.Form.{short, joined, separate}
+use Rattle.cba_mode.proofs.Reference
 use Rattle.cba_mode.proofs.FormLaws.{by-form, seal-short, seal-joined, seal-long, seal-single}
 use Rattle.cba_mode.proofs.OffsetLaws.{xors-octets, append-octets, take-octets, drop-octets, F-octets, start-octets, offset-octets, pad-octets}
 

@@ -17,6 +17,7 @@ use Rattle.fips197.specs.Cipher.{cipher, invCipher}
 use Rattle.fips197.proofs.Inverses.{inverses}
 use Rattle.cba_mode.specs.Sets.{isSet, keyBytes, tagBits, capacity}
 use Rattle.cba_mode.specs.Data.{tagOfData}
+use Rattle.cba_mode.specs.Seal.{ENC}
 use Rattle.cba_mode.specs.Open.{Opened, isFalse, messageOf, DEC}
 use Rattle.cba_mode.specs.Open.Opened.{opened, refused}
 use Rattle.cba_mode.specs.RoundTrip.{BlockCipher, RoundTrip}
@@ -44,14 +45,19 @@ aes set key s k =
 trip : (set : ℕ) (key N A : List ℕ) → isSet set ≡ true → Octets (keyBytes set) key → Octets 12 N → Bytes A → RoundTrip (cipher key) (invCipher key) (tagBits set) (capacity set) N (tagOfData (cipher key) (tagBits set) (capacity set) A)
 trip set key N A s k n a = data-trip (cipher key) (invCipher key) (aes set key s k) (tagBits set) (capacity set) (set-fits set s) N A n a
 
--- ---- the outputs of accepted calls
+-- ---- the outputs of accepted calls, and that a sealing opens
 
 module _ (set : ℕ) (key N A : List ℕ) (v : RoundTrip (cipher key) (invCipher key) (tagBits set) (capacity set) N (tagOfData (cipher key) (tagBits set) (capacity set) A)) where
-  sealed-out : (M out : List ℕ) → Bytes M → sealAnswer set key N A M out ≡ 0 → sealOutput set key N A M out ≡ sealing set key N A M ++ drop (length M + setTag set) out
+  sealed-out : (M out : List ℕ) → Bytes M → sealAnswer set key N A M out ≡ 0 → sealOutput set key N A M out ≡ ENC (cipher key) (tagBits set) (capacity set) N A M ++ drop (length M + setTag set) out
   unfolding sealOutput sealLeaves sealing
   sealed-out M out b e =
       ap (λ (a : ℕ). cond (eqb a 0) (over (sealing set key N A M) out) out) e
-      ∙ ap (λ (n : ℕ). sealing set key N A M ++ drop n out) (v .longer M b .size)
+      ∙ ap (λ (n : ℕ). ENC (cipher key) (tagBits set) (capacity set) N A M ++ drop n out) (v .longer M b .size)
+
+  -- a sealing opens, to its message
+  sealing-opens : (M C : List ℕ) → Bytes M → sealing set key N A M ≡ C → opening set key N A C ≡ opened M
+  unfolding sealing opening
+  sealing-opens M C b e = ap (DEC (cipher key) (invCipher key) (tagBits set) (capacity set) N A) (sym e) ∙ v .opens M b
 
   -- a message has t bytes less than what opens to it
   opened-length : (C M : List ℕ) → Bytes C → opening set key N A C ≡ opened M → length C ≡ length M + setTag set
@@ -113,11 +119,6 @@ module _ (set : ℕ) (key N A : List ℕ) (g : Given set key N A) where
   v : RoundTrip (cipher key) (invCipher key) (tagBits set) (capacity set) N (tagOfData (cipher key) (tagBits set) (capacity set) A)
   v = trip set key N A (g .is-set) (g .its-key) (g .its-nonce) (g .its-data)
 
-  -- a sealing opens, to its message
-  sealing-opens : (M C : List ℕ) → Bytes M → sealing set key N A M ≡ C → opening set key N A C ≡ opened M
-  unfolding sealing opening
-  sealing-opens M C b e = ap (DEC (cipher key) (invCipher key) (tagBits set) (capacity set) N A) (sym e) ∙ v .opens M b
-
   module _ (c : ℕ) (least : t ≤ c) (most : c ≤ 65536 + t) (out : List ℕ) (room : c - t ≤ length out) where
     abbrev n : ℕ
     n = c - t
@@ -152,7 +153,7 @@ module _ (set : ℕ) (key N A : List ℕ) (g : Given set key N A) where
               record {
                 message = λ h. subst Message (sym w) (record { bytes = s .0; limit = omega (arith, o .size) });
                 its-sealing = λ h. ap (sealing set key N A) w ∙ s .1;
-                no-other = λ h M′ m e′. ap messageOf (sym (sealing-opens M′ C (m .bytes) e′) ∙ e) ∙ sym w;
+                no-other = λ h M′ m e′. ap messageOf (sym (sealing-opens set key N A v M′ C (m .bytes) e′) ∙ e) ∙ sym w;
                 false-none = λ h. absurd (omega (arith, z, h));
                 none-false = λ h. absurd (h M (record { bytes = s .0; limit = omega (arith, o .size) }) (s .1));
                 no-third = inl z;
@@ -163,7 +164,7 @@ module _ (set : ℕ) (key N A : List ℕ) (g : Given set key N A) where
                 message = λ h. absurd (omega (arith, z, h));
                 its-sealing = λ h. absurd (omega (arith, z, h));
                 no-other = λ h. absurd (omega (arith, z, h));
-                false-none = λ h M m e′. refused-opens (sym e ∙ sealing-opens M C (m .bytes) e′);
+                false-none = λ h M m e′. refused-opens (sym e ∙ sealing-opens set key N A v M C (m .bytes) e′);
                 none-false = λ h. z;
                 no-third = inr z;
               }
@@ -180,7 +181,7 @@ module _ (set : ℕ) (key N A : List ℕ) (g : Given set key N A) where
     unfolding sealing
     number =
         count-scheme (sealing set key N A) (λ C. eqb (openAnswer set key N A C out) 0) n c sized
-        (λ M o. eq-eqb (openAnswer set key N A (sealing set key N A M) out) 0 (opened-0 (sealing set key N A M) (sized M o) M (sealing-opens M (sealing set key N A M) (o .small) refl)))
+        (λ M o. eq-eqb (openAnswer set key N A (sealing set key N A M) out) 0 (opened-0 (sealing set key N A M) (sized M o) M (sealing-opens set key N A v M (sealing set key N A M) (o .small) refl)))
         (λ C o h.
         let d = decide C o _ _ (refl, refl) in
         let z = eqb-true (openAnswer set key N A C out) 0 h in

@@ -1,4 +1,5 @@
--- What the plain calls answer: the checks as facts about lengths, and what a refusal leaves in the output.
+-- What the plain calls answer: the checks as facts about lengths, and what a refusal leaves in the output. The example calls are
+-- checked before these laws.
 -- Assumes nothing.
 use mathlib.Core.Path.{_≡_, refl, sym, ap, subst, _∙_}
 use mathlib.Core.Bool.{true, false, cond, not}
@@ -14,6 +15,7 @@ use Rattle.cba_mode.specs.Open.{isFalse, messageOf}
 use Rattle.cba_rules.specs.Checks.{setTag, badSet, badKey, badNonce, longData, forged, keyRows, messageRows, ciphertextRows, sealRows, openChecks, openRows}
 use Rattle.cba_rules.specs.Refusals.{sealing, opening, sealAnswer, openAnswer, sealLeaves, sealOutput, openLeaves, openOutput, SealCall, OpenCall}
 use Rattle.cba_rules.specs.Demands.{SealRefusals, OpenRefusals}
+use Rattle.cba_rules.proofs.Examples
 
 -- ---- the checks as facts about lengths
 

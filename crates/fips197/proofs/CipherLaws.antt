@@ -1,5 +1,5 @@
 -- Cipher gives a block, InvCipher undoes Cipher and Cipher undoes InvCipher, over every schedule of bytes that is long enough for
--- the rounds.
+-- the rounds. The examples are checked before these laws.
 -- Assumes nothing.
 use mathlib.Core.Path.{_≡_, ap, ap₂, _∙_}
 use mathlib.Core.List.{List}
@@ -11,6 +11,7 @@ use Rattle.octets.specs.Strings.{Bytes, Octets}
 use Rattle.fips197.specs.Schedule.{keyExpansion}
 use Rattle.fips197.specs.Steps.{subBytes, shiftRows, mixColumns, addRoundKey, invSubBytes, invShiftRows, invMixColumns}
 use Rattle.fips197.specs.Cipher.{fullRound, rounds, cipherOver, invRounds, invCipherOver, keyRounds, cipher}
+use Rattle.fips197.proofs.Examples
 use Rattle.fips197.proofs.StepLaws.{subBytes-octets, invSubBytes-octets, invSubBytes-subBytes, subBytes-invSubBytes, shiftRows-octets, invShiftRows-octets, invShiftRows-shiftRows, shiftRows-invShiftRows, mixColumns-octets, invMixColumns-octets, invMixColumns-mixColumns, mixColumns-invMixColumns, addRoundKey-octets, addRoundKey-twice}
 
 -- one more round

@@ -1,4 +1,4 @@
--- Laws of the key schedule, over the number of key words.
+-- Laws of the key schedule, over the number of key words. The examples are checked before these laws.
 -- Assumes nothing.
 use mathlib.Core.Path.{_≡_, refl, _∙_}
 use mathlib.Core.Bool.{Bool, true, false, cond, _||_, and-false}
@@ -16,6 +16,7 @@ use Rattle.octets.proofs.Xor.{length-xors, bytes-xors}
 use Rattle.octets.proofs.Blocks.{length-block}
 use Rattle.field.proofs.Rules.{xtime-byte, sBox-byte}
 use Rattle.fips197.specs.Schedule.{isKey, subWord, rotWord, power, rcon, atStart, atMiddle, temp, nextWord, expanded, keyExpansion}
+use Rattle.fips197.proofs.Examples
 
 -- what a key's length is good for: it is a number of words, which is even and 4 to 8
 pub record KeyWords (key : List ℕ) : Type 0 where
