@@ -2,7 +2,7 @@
 //! hand; the model must agree.
 
 use super::lines::Request;
-use super::model::{self, FIRST, HEADING, LF, MOST_LINE, SUMMARY};
+use super::model::{self, FIRST, HEADING, LF, MOST_LINE, MOST_LINES, SUMMARY};
 use crate::shared::expected::{form, set, sets, Set};
 use crate::shared::mode::bytes::to_hex;
 
@@ -26,6 +26,9 @@ const ACCEPTED: [usize; 10] = [10, 8, 11, 8, 8, 8, 8, 8, 8, 8];
 /// input from a file, so that each read but the last has so many.
 const BUFFER: usize = 65_536;
 const ROOM: usize = 4200;
+
+/// What follows the last line that is read.
+const NOT_READ: &[u8] = b"\nseal 11 - - - -\n";
 
 /// The good words with another in one place.
 fn with(i: usize, word: &str) -> String {
@@ -129,8 +132,8 @@ pub fn script() -> (Vec<u8>, Vec<u8>) {
     hex_words(&mut s);
     lengths(&mut s);
     second_read(&mut s);
-    s.line(0, GOOD.join(" ")); // and no LF
-    let input = s.input();
+    last_line(&mut s);
+    let input = [&s.input()[..], NOT_READ].concat();
     let output = model::output(&input);
     s.check(&output);
     check_reads(&input);
@@ -157,6 +160,14 @@ fn second_read(s: &mut Script) {
     }
     let rest = 2 * BUFFER - (s.input().len() + 1); // LF ends the line before
     s.line(11, "0".repeat(rest - 1));
+}
+
+/// Empty lines up to the last that is read, which is good.
+fn last_line(s: &mut Script) {
+    while s.lines.len() + 1 < MOST_LINES {
+        s.line(11, "");
+    }
+    s.line(0, GOOD.join(" "));
 }
 
 /// Sealing and opening in the short, the joined and the separate form.

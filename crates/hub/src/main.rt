@@ -7,43 +7,52 @@ ghost use mathlib.Core.Path.{_≡_};
 ghost use mathlib.Core.Bool.{false};
 ghost use Prim.Native.Nat.{_≤_};
 ghost use lib.ListN.{length, take};
-ghost use Rattle.hub_run.specs.Values.{endRoom, Sound};
-ghost use Rattle.hub.specs.Follows.{Follows};
-ghost use Rattle.hub_rules.specs.Stream.{lineRoom, lineKept};
+ghost use Rattle.hub_run.specs.Values.{endRoom, stateOf, Sound};
+ghost use Rattle.hub.specs.Follows.{Small, Follows, Reached};
+ghost use Rattle.hub_rules.specs.Stream.{lineRoom, lineKept, over};
 
-// The state, how much of the input was read last, whether more is to be read, and whether a write
-// failed.
+// The state, how much of the input was read last, how many bytes of what it says were written, whether
+// more is to be read, and whether a write failed.
 struct Going {
     hub: Hub,
     read: usize,
+    wrote: usize,
     more: bool,
     failed: bool,
 }
 
-// Writes the first n bytes of out, and says whether that succeeded.
-fn write(out: &[u8], n: usize) -> bool
+// Writes the first n bytes of out, and says how many are known to be written: all, or none where a write
+// failed.
+fn write(out: &[u8], n: usize) -> usize
     requires { ⌜ n ≤ length (now out) ⌝ }
+    ensures { λ r. ⌜ r ≤ n ⌝ }
 {
-    io::write_all(STDOUT_FILENO, &out[..n])
+    if io::write_all(STDOUT_FILENO, &out[..n]) {
+        return n;
+    }
+    0
 }
 
 // Feeds a chunk and writes what it says, piece by piece where the output is longer than its buffer.
 fn say(h: Hub, line: &mut [u8], chunk: &[u8], out: &mut [u8]) -> Going
-    requires { ⌜ lineRoom ≤ length (now out) ⌝ }
+    requires { ⌜ (lineRoom ≤ length (now out)) × Small (now out) × Small (now chunk) ⌝ }
     requires { ⌜ Sound h (now line) ⌝ }
-    ensures { λ r. ⌜ r .read ≡ length (now (chunk .entry)) ⌝ }
-    ensures { λ r. ⌜ Follows h (now (line .entry)) (now (chunk .entry)) (r .hub) (r .failed) (now (line .exit)) ⌝ }
+    ensures { λ r. ⌜ Follows h (now (line .entry)) (now (chunk .entry)) r (now (line .exit)) ⌝ }
 {
     let mut next = h;
     let mut used = 0;
+    let mut wrote = 0;
     while used < chunk.len() {
         let f = hub_run::feed(next, line, &chunk[used..], out);
         next = f.hub;
         used += f.used;
-        if !write(out, f.written) {
+        let n = write(out, f.written);
+        wrote += n;
+        if n < f.written {
             return Going {
                 hub: next,
                 read: chunk.len(),
+                wrote: wrote,
                 more: false,
                 failed: true,
             };
@@ -52,6 +61,7 @@ fn say(h: Hub, line: &mut [u8], chunk: &[u8], out: &mut [u8]) -> Going
     Going {
         hub: next,
         read: chunk.len(),
+        wrote: wrote,
         more: !hub_run::is_over(next),
         failed: false,
     }
@@ -59,11 +69,12 @@ fn say(h: Hub, line: &mut [u8], chunk: &[u8], out: &mut [u8]) -> Going
 
 // Nothing was read.
 fn nothing(h: Hub, more: bool) -> Going
-    ensures { λ r. ⌜ (r .hub ≡ h) × (r .read ≡ 0) × (r .more ≡ more) × (r .failed ≡ false) ⌝ }
+    ensures { λ r. ⌜ (r .hub ≡ h) × (r .read ≡ 0) × (r .wrote ≡ 0) × (r .more ≡ more) × (r .failed ≡ false) ⌝ }
 {
     Going {
         hub: h,
         read: 0,
+        wrote: 0,
         more: more,
         failed: false,
     }
@@ -72,9 +83,9 @@ fn nothing(h: Hub, more: bool) -> Going
 // One read, and what it says: the state after the bytes that it read, which are the first of input. A
 // read that was interrupted is done again; any other that fails ends the input.
 fn read_some(h: Hub, input: &mut [u8], line: &mut [u8], out: &mut [u8]) -> Going
-    requires { ⌜ lineRoom ≤ length (now out) ⌝ }
-    requires { ⌜ Sound h (now line) ⌝ }
-    ensures { λ r. ⌜ Follows h (now (line .entry)) (take (r .read) (now (input .exit))) (r .hub) (r .failed) (now (line .exit)) ⌝ }
+    requires { ⌜ (lineRoom ≤ length (now out)) × Small (now out) × Small (now input) ⌝ }
+    requires { ⌜ Sound h (now line) × (over (stateOf h (now line)) ≡ false) ⌝ }
+    ensures { λ r. ⌜ Follows h (now (line .entry)) (take (r .read) (now (input .exit))) r (now (line .exit)) ⌝ }
 {
     let got = libc::read(STDIN_FILENO, input);
     if got < 0 {
@@ -91,7 +102,8 @@ fn read_some(h: Hub, input: &mut [u8], line: &mut [u8], out: &mut [u8]) -> Going
 // nothing says that an input does, so it counts its turns down from a number that no run uses up.
 fn read_all(input: &mut [u8], line: &mut [u8], out: &mut [u8]) -> Going
     requires { ⌜ (lineKept ≤ length (now line)) × (lineRoom ≤ length (now out)) ⌝ }
-    ensures { λ r. ⌜ Sound (r .hub) (now (line .exit)) ⌝ }
+    requires { ⌜ Small (now out) × Small (now input) ⌝ }
+    ensures { λ r. ⌜ Reached r (now (line .exit)) ⌝ }
 {
     let mut g = nothing(hub_run::begin(), true);
     let mut turns = u64::MAX;
@@ -106,12 +118,21 @@ fn read_all(input: &mut [u8], line: &mut [u8], out: &mut [u8]) -> Going
     g
 }
 
+// What is said at the end of the input.
+fn end(h: Hub, line: &[u8], out: &mut [u8])
+    requires { ⌜ (endRoom ≤ length (now out)) × Sound h (now line) ⌝ }
+{
+    let n = hub_run::finish(h, line, out);
+    write(out, n);
+}
+
 // The heading, what the input says, and the end.
 fn run(input: &mut [u8], line: &mut [u8], out: &mut [u8])
     requires { ⌜ (lineKept ≤ length (now line)) × (endRoom ≤ length (now out)) ⌝ }
+    requires { ⌜ Small (now out) × Small (now input) ⌝ }
 {
     let n = hub_run::put_heading(out);
-    if !write(out, n) {
+    if write(out, n) < n {
         return;
     }
     let g = read_all(input, line, out);
@@ -119,8 +140,7 @@ fn run(input: &mut [u8], line: &mut [u8], out: &mut [u8])
         return;
     }
     let h = g.hub;
-    let m = hub_run::finish(h, line, out);
-    write(out, m);
+    end(h, line, out);
 }
 
 fn main() {

@@ -5,16 +5,12 @@ use mathlib.Core.Bool.{Bool, true, false}
 use mathlib.Core.List.{List}
 use Prim.Native.Nat.{ℕ, _+_, _-_, _≤_}
 use native.Mathlib.Omega.{arith}
-use borrow.Author.Tests.{eq-eqb, ne-eqb, le-ltb}
+use borrow.Author.Tests.{eq-eqb, ne-eqb}
 use lib.Dec.{T, eqb}
-use lib.ListN.{length, take, length-replicate}
-use Rattle.cba_mode.specs.Sets.{isSet}
+use lib.ListN.{length, take}
 use Rattle.cba_mode.specs.Open.{messageOf}
-use Rattle.answers.specs.Rows.{answer}
-use Rattle.cba_rules.specs.Checks.{setTag, sealRows, openRows}
-use Rattle.cba_rules.specs.Refusals.{opening, sealAnswer, openAnswer, SealCall, OpenCall}
+use Rattle.cba_rules.specs.Refusals.{opening, SealCall, OpenCall}
 use Rattle.cba_rules.specs.Demands.{AllBytes}
-use Rattle.cba_rules.proofs.SetLaws.{set-fits}
 use Rattle.cba_rules.proofs.RefusalLaws.{seal-accepted, open-accepted}
 use Rattle.cba_rules.proofs.Demands.{demand-2, speaks}
 use Rattle.hub_answer.specs.declared.answer.Reply.{Reply}
@@ -24,30 +20,11 @@ use Rattle.hub_grammar.specs.Lines.Parsed.{asked, malformed}
 use Rattle.hub_text.specs.Cuts.{part}
 use Rattle.hub_text.specs.Requests.{requestOf, Read}
 use Rattle.hub_rules.specs.Answers.{room, requestAnswer, requestResult, answerOf, resultOf, acceptedSet, lineText, lineFor}
+use Rattle.hub_rules.proofs.AnswerLaws.{tag-most, seal-any, open-any, room-seals, room-opens}
 use Rattle.hub_text.proofs.CutLaws.{part-length}
 use Rattle.text.specs.Writing.{Puts}
 use Rattle.hub_answer.specs.Replies.{resultBytes, resultLength, Sized, Called, Refused, Replies, Answers}
 use Rattle.hub_grammar.proofs.Grammar.{grammar}
-
--- ---- an output that is long enough does not count
-
-pub tag-most : (set : ℕ) → isSet set ≡ true → setTag set ≤ 16
-tag-most set h = let f = set-fits set h .0 in omega arith
-
-module _ (set : ℕ) (key N A text o o′ : List ℕ) (h : length text + 16 ≤ length o) (h′ : length text + 16 ≤ length o′) where
-  seal-any : sealAnswer set key N A text o ≡ sealAnswer set key N A text o′
-  unfolding sealAnswer sealRows answer
-  seal-any = go (isSet set) refl
-    where
-      go : (b : Bool) → isSet set ≡ b → sealAnswer set key N A text o ≡ sealAnswer set key N A text o′
-      go false e = rw e
-      go true e =
-          let t = tag-most set e in
-          rw (le-ltb (length o) (length text + setTag set) (omega arith), le-ltb (length o′) (length text + setTag set) (omega arith))
-
-  open-any : openAnswer set key N A text o ≡ openAnswer set key N A text o′
-  unfolding openAnswer openRows answer
-  open-any = rw (le-ltb (length o) (length text - setTag set) (omega arith), le-ltb (length o′) (length text - setTag set) (omega arith))
 
 -- ---- the plain call of a request
 
@@ -72,13 +49,10 @@ module _ (q : Request) (w : Writable q) (out : List ℕ) (h : length (q .text) +
   abbrev Opens : Type 0
   Opens = OpenCall (q .set) (q .key) (q .nonce) (q .ad) (q .text) out r out′
 
-  enough : length (q .text) + 16 ≤ length (room q)
-  enough = omega (arith, length-replicate {A = ℕ} (length (q .text) + 16) 0)
-
   seal-is : q .seals ≡ true → Seals → Calls q r out′
   unfolding requestAnswer requestResult
   seal-is s c =
-      let a : r ≡ requestAnswer q = rw s (c .0 ∙ seal-any (q .set) (q .key) (q .nonce) (q .ad) (q .text) out (room q) h enough) in
+      let a : r ≡ requestAnswer q = rw s (c .0 ∙ seal-any (q .set) (q .key) (q .nonce) (q .ad) (q .text) out (room q) (λ e. omega (arith, tag-most (q .set) e)) (room-seals q)) in
       record {
         answer-is = a;
         sized = λ e. record { is-set = seal-accepted (q .set) (q .key) (q .nonce) (q .ad) (q .text) out (sym (c .0) ∙ e) .0 .is-set; long = λ z. absurd (subst T (sym s ∙ z) tt) };
@@ -100,7 +74,7 @@ module _ (q : Request) (w : Writable q) (out : List ℕ) (h : length (q .text) +
   open-is : q .seals ≡ false → Opens → Calls q r out′
   unfolding requestAnswer requestResult opening messageOf
   open-is s c =
-      let a : r ≡ requestAnswer q = rw s (c .0 ∙ open-any (q .set) (q .key) (q .nonce) (q .ad) (q .text) out (room q) h enough) in
+      let a : r ≡ requestAnswer q = rw s (c .0 ∙ open-any (q .set) (q .key) (q .nonce) (q .ad) (q .text) out (room q) (omega arith) (room-opens q)) in
       record {
         answer-is = a;
         sized = λ e.

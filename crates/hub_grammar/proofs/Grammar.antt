@@ -3,18 +3,19 @@
 use mathlib.Core.Path.{_≡_, refl, sym, ap, subst, _∙_}
 use mathlib.Core.Bool.{Bool, true, false, cond, _&&_, _||_}
 use mathlib.Core.List.{List, [], _∷_}
-use Prim.Native.Nat.{ℕ, _<_, _≤_}
+use Prim.Native.Nat.{ℕ, _+_, _*_, _<_, _≤_}
 use native.Mathlib.Omega.{arith}
-use lib.Dec.{T}
-use lib.ListN.{length, drop, getD, drop-of-length-le}
+use lib.Dec.{T, eqb}
+use lib.ListN.{length, drop, getD, length-append, drop-of-length-le}
 use lib.Seq.{drop-cons}
 use borrow.Author.Tests.{leb-true, eqb-true, le-leb, lt-leb}
 use Rattle.octets.specs.Strings.{Bytes, eqs}
 use Rattle.octets.proofs.Tests.{eqs→eq}
-use Rattle.text.specs.Numerals.{decimal, isSetNumber, shown, isValue}
+use Rattle.text.specs.Numerals.{decimal, isSetNumber, hex, shown, isValue}
 use Rattle.hub_grammar.specs.Lines.{lineLimit, sealWord, openWord, Request, Parsed, spaced, written, Writable, wordsOf, fromSix, fromWords, parse, Grammar}
 use Rattle.hub_grammar.specs.Lines.Parsed.{asked, malformed}
 use Rattle.hub_grammar.proofs.WordLaws.{Solids, words-spaced, spaced-words}
+use Rattle.text.proofs.HexLaws.{length-hex}
 use Rattle.text.proofs.NumeralLaws.{Solid, both, set-back, set-number, value-back, value}
 
 -- the words that a request is written as
@@ -127,3 +128,22 @@ grammar = record { reads = reads; only = λ s r e. subst (Reads s) e (line-read 
 pub parse-long : (s : List ℕ) → lineLimit < length s → parse s ≡ malformed
 unfolding parse
 parse-long s h = rw (lt-leb (length s) lineLimit h)
+
+-- ---- how long a value can be
+
+-- two characters a byte
+shown-long : (s : List ℕ) → 2 * length s ≤ length (shown s)
+unfolding shown
+shown-long s = go (eqb (length s) 0) refl
+  where
+    go : (b : Bool) → eqb (length s) 0 ≡ b → 2 * length s ≤ length (cond b (45 ∷ []) (hex s))
+    go true e = omega (arith, eqb-true (length s) 0 e)
+    go false e = omega (arith, length-hex s)
+
+-- a line has two characters for each byte of its data and of its text
+pub half : (r : Request) → 2 * (length (r .ad) + length (r .text)) ≤ length (written r)
+unfolding written spaced
+half r =
+    let d = shown-long (r .ad) in
+    let t = shown-long (r .text) in
+    simp length-append (omega (arith, d, t))

@@ -1,3 +1,4 @@
+pub mod Examples
 pub mod AnswerLaws
 pub mod Example
 pub mod StreamLaws

@@ -5,7 +5,7 @@ use mathlib.Core.List.{List, [], _∷_, _++_}
 use mathlib.Core.Logic.{_⊎_}
 use Prim.Native.Nat.{ℕ, _<_, _≤_}
 use Rattle.text.specs.Numerals.{decimal}
-use Rattle.hub_rules.specs.Whole.{lastLine, firstLine, heading, summaryHead, linesOf, atMost, answersFrom, countFor, hub}
+use Rattle.hub_rules.specs.Whole.{firstLine, heading, summaryHead, linesOf, atMost, answersFrom, countFor, hub}
 
 -- a row: a set, and how many lines it accepted
 pub record Count : Type 0 where
@@ -35,11 +35,12 @@ pub record Rows (read : List (List ℕ)) (rows : List Count) : Type 0 where
   pub only : (r : Count) → Holds rows r → (1 ≤ r .set) × (r .set ≤ 10) × (r .lines ≡ countFor (r .set) read) × (r .lines ≡ 0 → ⊥)
   pub each : (s : ℕ) → 1 ≤ s → s ≤ 10 → (countFor s read ≡ 0 → ⊥) → Holds rows (record { set = s; lines = countFor s read })
 
--- the text after the line `set accepted` is the text of such a list: of an input whose first line is right, ls being the others
+-- Of an input whose first line is right, ls being the others: at most 9,999 of them are read, each gives its answer, and the text after
+-- the line `set accepted` is the text of such a list.
 pub record Summed (input : List ℕ) (ls : List (List ℕ)) : Type 0 where
   pub rows : List Count
-  pub are : Rows (atMost lastLine ls) rows
-  pub output-is : hub input ≡ heading ++ (answersFrom 1 (atMost lastLine ls) ++ (summaryHead ++ rowsText rows))
+  pub are : Rows (atMost 9999 ls) rows
+  pub output-is : hub input ≡ heading ++ (answersFrom 1 (atMost 9999 ls) ++ (summaryHead ++ rowsText rows))
 
 abbrev pub Summary : Type 0
 Summary = (input : List ℕ) (ls : List (List ℕ)) → linesOf input ≡ firstLine ∷ ls → Summed input ls

@@ -4,7 +4,6 @@ use mathlib.Core.Path.{_≡_}
 use native.Mathlib.Omega.{arith}
 use borrow.Author.Needs.{needs}
 use lib.ListN.{length, length-take}
-use Rattle.hub_grammar.specs.Lines.{parse}
 use Rattle.hub_rules.proofs.AnswerLaws.{answer-most}
 use Rattle.hub_answer.proofs.AnswerLaws.{answered}
 use Rattle.hub_answer.proofs.answer.answer_line.Statement.{statement}
@@ -14,7 +13,7 @@ use Rattle.hub_answer.specs.Replies.{resultRoom}
 put-line-requires : tie.Need-put-line-requires
 put-line-requires c κs =
     let reply = c .before .before .before .reply-to in
-    let m = answer-most (parse (c .before .before .before .before .before .before .before .args .line .now)) in
+    let m = answer-most (c .before .before .before .before .before .before .before .args .line .now) in
     let l : length (reply .last .1 .0) ≡ resultRoom = search needs in
     let t = length-take (reply .result .length) (reply .last .1 .0) in
     search (needs, m, t)

@@ -1,7 +1,7 @@
 -- `hub_answer::answer::result_bytes` meets its contract.
 -- Assumes nothing.
 use borrow.Author.Needs.{needs}
-use Rattle.hub_answer.proofs.AnswerLaws.{tag-most}
+use Rattle.hub_rules.proofs.AnswerLaws.{tag-most}
 use Rattle.hub_answer.proofs.answer.result_bytes.Statement.{statement}
 use Rattle.hub_answer.proofs.answer.result_bytes.Tie as tie
 
