@@ -2,33 +2,33 @@
 -- stands where.
 -- Assumes nothing.
 use mathlib.Core.List.{List}
-use Prim.Native.Nat.{ℕ, min}
-use lib.ListN.{take, drop, getD, set}
+use Prim.Native.Nat.{ℕ, _+_, min}
+use lib.ListN.{getD, set}
 use Rattle.script.specs.Strings.{filled}
-use Rattle.script.specs.Records.{two, four, eight, flag}
-use Rattle.ledger_rules.specs.Ledger.{Ledger, noHeadings, madeLedger, keptLedger}
+use Rattle.script.specs.Records.{two, four, eight, flag, part}
+use Rattle.ledger_rules.specs.Ledger.{Heading, Ledger, noHeadings, madeLedger, keptLedger}
 
 -- make
 abbrev pub madeBy : List ℕ → Ledger
-madeBy r = madeLedger (four r 1) (take (min (getD r 7 0) 56) (drop 8 r)) (two r 5)
+madeBy r = madeLedger (four r 1) (part r 8 (8 + min (getD r 7 0) 56)) (two r 5)
 
 -- put
 abbrev pub putBy : List ℕ → Ledger
 putBy r =
     record {
       set = four r 1;
-      key = take 32 (drop 5 r);
+      key = part r 5 37;
       console = two r 37;
       total = eight r 39;
       heartbeats = flag r 60;
       begun = flag r 47;
-      last = take 12 (drop 48 r);
+      last = part r 48 60;
       headings = noHeadings;
     }
 
--- hold
-abbrev pub heldBy : Ledger → List ℕ → Ledger
-heldBy l r =
+-- hold: these headings in the place of its own
+abbrev pub heldWith : Ledger → List Heading → Ledger
+heldWith l hs =
     record {
       set = l .set;
       key = l .key;
@@ -37,8 +37,11 @@ heldBy l r =
       heartbeats = l .heartbeats;
       begun = l .begun;
       last = l .last;
-      headings = set (l .headings) (min (getD r 1 0) 7) (record { kept = flag r 2; sum = take 16 (drop 3 r) });
+      headings = hs;
     }
+
+abbrev pub heldBy : Ledger → List ℕ → Ledger
+heldBy l r = heldWith l (set (l .headings) (min (getD r 1 0) 7) (record { kept = flag r 2; sum = part r 3 19 }))
 
 -- keep, with data of n bytes
 abbrev pub keptBy : Ledger → List ℕ → ℕ → Ledger

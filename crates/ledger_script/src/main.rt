@@ -30,6 +30,7 @@ use ledger::NOTHING;
 use ledger::Outcome;
 use libc::STDIN_FILENO;
 use script::fill;
+use script::key_of;
 use script::least;
 use script::length;
 use script::long_number;
@@ -41,6 +42,7 @@ ghost use Prim.Native.Nat.{_+_, _*_};
 ghost use lib.ListN.{length};
 ghost use Rattle.ledger_rules.specs.Ledger.{carriedLedger};
 ghost use Rattle.ledger.specs.Values.{valueOf, Ran};
+ghost use Rattle.script.specs.Records.{part};
 ghost use Rattle.ledger_script.specs.Records.{madeBy, putBy, heldBy, keptBy};
 
 fn short_number(a: u8, b: u8) -> u16
@@ -64,23 +66,36 @@ fn made(r: [u8; 64]) -> Ledger
     l
 }
 
+// The last nonce of a record `put`, and the sum of a record `hold`.
+fn last_of(r: [u8; 64]) -> [u8; 12]
+    ensures { λ n. ⌜ n ≡ part r 48 60 ⌝ }
+{
+    let mut last = [0u8; 12];
+    octets::put(&mut last, &r[48..60]);
+    last
+}
+
+fn sum_of(r: [u8; 64]) -> [u8; 16]
+    ensures { λ s. ⌜ s ≡ part r 3 19 ⌝ }
+{
+    let mut sum = [0u8; 16];
+    octets::put(&mut sum, &r[3..19]);
+    sum
+}
+
 fn hand_made(r: [u8; 64]) -> Ledger
     ensures { λ l. ⌜ valueOf l ≡ putBy r ⌝ }
 {
-    let mut key = [0u8; 32];
-    let mut last = [0u8; 12];
-    octets::put(&mut key, &r[5..37]);
-    octets::put(&mut last, &r[48..60]);
     let high = number(r[39], r[40], r[41], r[42]);
     let low = number(r[43], r[44], r[45], r[46]);
     Ledger {
         set: number(r[1], r[2], r[3], r[4]),
-        key: key,
+        key: key_of(r),
         console: short_number(r[37], r[38]),
         total: long_number(high, low),
         heartbeats: r[60] != 0,
         begun: r[47] != 0,
-        last: last,
+        last: last_of(r),
         headings: [NOTHING; 8],
     }
 }
@@ -99,8 +114,7 @@ fn hold(l: Ledger, r: [u8; 64]) -> Ledger
     ensures { λ next. ⌜ valueOf next ≡ heldBy (valueOf l) r ⌝ }
 {
     let i = least(r[1] as usize, 7);
-    let mut sum = [0u8; 16];
-    octets::put(&mut sum, &r[3..19]);
+    let sum = sum_of(r);
     let mut after = l;
     after.headings[i] = Heading {
         kept: r[2] != 0,

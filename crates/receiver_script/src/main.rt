@@ -25,15 +25,21 @@ use receiver::Outcome;
 use receiver::Receiver;
 use receiver::Window;
 use script::fill;
+use script::key_of;
 use script::least;
 use script::length;
 use script::long_number;
 use script::number;
 use script::print_number;
 use script::print_output;
-ghost use Prim.Native.Nat.{_≤_};
+ghost use mathlib.Core.Path.{_≡_};
+ghost use Rattle.script.specs.Records.{eight};
+ghost use Rattle.receiver.specs.Values.{valueOf};
+ghost use Rattle.receiver_script.specs.Records.{madeBy, putBy};
 
-fn made(r: [u8; 64]) -> Receiver {
+fn made(r: [u8; 64]) -> Receiver
+    ensures { λ v. ⌜ valueOf v ≡ madeBy r ⌝ }
+{
     let end = 10 + least(r[9] as usize, 54);
     let set = number(r[1], r[2], r[3], r[4]);
     let prefix = number(r[5], r[6], r[7], r[8]);
@@ -46,31 +52,41 @@ fn made(r: [u8; 64]) -> Receiver {
     v
 }
 
-// The number of eight bytes of a record.
-fn long_at(r: [u8; 64], at: usize) -> u64
-    requires { ⌜ at ≤ 56 ⌝ }
+// The highest counter and the marks of a record `put`.
+fn highest_of(r: [u8; 64]) -> u64
+    ensures { λ n. ⌜ n ≡ eight r 42 ⌝ }
 {
-    let high = number(r[at], r[at + 1], r[at + 2], r[at + 3]);
-    let low = number(r[at + 4], r[at + 5], r[at + 6], r[at + 7]);
+    let high = number(r[42], r[43], r[44], r[45]);
+    let low = number(r[46], r[47], r[48], r[49]);
     long_number(high, low)
 }
 
-fn hand_made(r: [u8; 64]) -> Receiver {
-    let mut key = [0u8; 32];
-    octets::put(&mut key, &r[5..37]);
+fn marks_of(r: [u8; 64]) -> u64
+    ensures { λ n. ⌜ n ≡ eight r 50 ⌝ }
+{
+    let high = number(r[50], r[51], r[52], r[53]);
+    let low = number(r[54], r[55], r[56], r[57]);
+    long_number(high, low)
+}
+
+fn hand_made(r: [u8; 64]) -> Receiver
+    ensures { λ v. ⌜ valueOf v ≡ putBy r ⌝ }
+{
     Receiver {
         set: number(r[1], r[2], r[3], r[4]),
-        key: key,
+        key: key_of(r),
         prefix: number(r[37], r[38], r[39], r[40]),
         window: Window {
             begun: r[41] != 0,
-            highest: long_at(r, 42),
-            marks: long_at(r, 50),
+            highest: highest_of(r),
+            marks: marks_of(r),
         },
     }
 }
 
-fn put(r: [u8; 64]) -> Receiver {
+fn put(r: [u8; 64]) -> Receiver
+    ensures { λ v. ⌜ valueOf v ≡ putBy r ⌝ }
+{
     let v = hand_made(r);
     print_call(1);
     print_receiver(v);

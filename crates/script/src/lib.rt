@@ -5,6 +5,7 @@
 // file stdout.
 mod lines;
 mod numbers;
+mod records;
 mod strings;
 
 pub use lines::print_bytes;
@@ -15,4 +16,5 @@ pub use numbers::least;
 pub use numbers::length;
 pub use numbers::long_number;
 pub use numbers::number;
+pub use records::key_of;
 pub use strings::fill;
