@@ -20,6 +20,13 @@ use Rattle.cba_rules.specs.Checks.{setTag, sealRows, openRows}
 use Rattle.cba_rules.specs.Refusals.{sealing, opening, openAnswer, SealCall, OpenCall}
 
 -- ---- Demand 1: every bad input refused by its own number, in a fixed order, every other call accepted, and what each refusal leaves
+--
+-- Here it is of the plain calls, with the numbers 1 to 8. Of every other call it stands in that call's theorems, likewise by `Decides` over
+-- its rows and by what a refusal leaves:
+--   a ledger's calls, with 9, 10, 12 and 13   `LedgerTheorems` of ledger_rules: making, sealing, keeping, carrying; refused, unmade
+--   a receiver's, with 12 and 15              `ReceiverTheorems` of receiver_rules: making, opens; leaves, unmade
+--   making and checking a mark, with 14       `MarkTheorems` of cmac_rules: makes, checks
+--   a line of the hub, with 11                `LineTheorems` of hub_rules: decides; seals, opens
 
 -- an answer r by the rows, and what is left of the output
 pub record SealRefusals (set : ℕ) (key N A M out : List ℕ) (r : ℕ) (out′ : List ℕ) : Type 0 where

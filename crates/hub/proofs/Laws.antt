@@ -12,7 +12,7 @@ use lib.Seq.{take-add, take-all, length-take-le}
 use Rattle.hub.specs.declared.Going.{Going}
 use Rattle.hub_run.specs.declared.state.Hub.{Hub}
 use Rattle.hub_run.specs.declared.chunk.Fed.{Fed}
-use Rattle.hub_rules.specs.Stream.{lineKept, State, begin, over, after, output}
+use Rattle.hub_rules.specs.Stream.{lineKept, State, begin, isDone, after, output}
 use Rattle.hub_run.specs.Values.{stateOf, Sound, Begins, IsOver, Feeds}
 use Rattle.hub_rules.proofs.StreamLaws.{after-append, output-append}
 use Rattle.hub.specs.Follows.{Follows, Reached}
@@ -142,7 +142,7 @@ abbrev Nothing : Hub → Bool → Going → Type 0
 Nothing h more r = (r .hub ≡ h) × (r .read ≡ 0) × (r .wrote ≡ 0) × (r .more ≡ more) × (r .failed ≡ false)
 
 -- of nothing
-pub follows-none : (h : Hub) (line input : List ℕ) {r : Going} {more : Bool} → Sound h line → over (stateOf h line) ≡ false → Nothing h more r →
+pub follows-none : (h : Hub) (line input : List ℕ) {r : Going} {more : Bool} → Sound h line → isDone (stateOf h line) ≡ false → Nothing h more r →
     Follows h line (take (r .read) input) r line
 unfolding after output
 follows-none h line input {r} s o e =
@@ -167,14 +167,14 @@ follows-read {h} {line} {line′} {r} input n l f =
 pub record Reading (input₀ line₀ out₀ : List ℕ) (g : Going) (input line out : List ℕ) : Type 0 where
   pub reached : Reached g line
   pub good : g .failed ≡ false
-  pub not-over : over (stateOf (g .hub) line) ≡ false
+  pub not-over : isDone (stateOf (g .hub) line) ≡ false
   pub same-input : length input ≡ length input₀
   pub same-line : length line ≡ length line₀
   pub same-out : length out ≡ length out₀
 
 pub read-none : {h : Hub} {more : Bool} {g : Going} (input line out : List ℕ) → Begins h → lineKept ≤ length line → Nothing h more g →
     Reading input line out g input line out
-unfolding begin over after output
+unfolding begin isDone after output
 read-none {h} input line out b l e =
     record {
       reached =
@@ -186,7 +186,7 @@ read-none {h} input line out b l e =
             state-is = λ z. rw (e .0) (b line l .1);
           };
       good = e .4;
-      not-over = rw (e .0) (ap over (b line l .1));
+      not-over = rw (e .0) (ap isDone (b line l .1));
       same-input = refl;
       same-line = refl;
       same-out = refl;

@@ -8,7 +8,7 @@ use lib.Dec.{ltb}
 use lib.ListN.{length}
 use Rattle.hub.specs.declared.Going.{Going}
 use Rattle.hub_run.specs.declared.state.Hub.{Hub}
-use Rattle.hub_rules.specs.Stream.{begin, over, after, output}
+use Rattle.hub_rules.specs.Stream.{begin, isDone, after, output}
 use Rattle.hub_run.specs.Values.{stateOf, Sound}
 
 -- at most as long as the program's own buffers, so that the bytes that a chunk says can be counted
@@ -25,8 +25,8 @@ pub record Follows (h : Hub) (line s : List ℕ) (r : Going) (line′ : List ℕ
   -- unless one failed, the state is the one after s
   pub state-is : r .failed ≡ false → stateOf (r .hub) line′ ≡ after (stateOf h line) s
   -- more is read only where no write failed and the run is not over, and always where s was read and both hold
-  pub goes-on : r .more ≡ true → (r .failed ≡ false) × (over (stateOf (r .hub) line′) ≡ false)
-  pub more-is : r .failed ≡ false → 0 < length s → r .more ≡ not (over (stateOf (r .hub) line′))
+  pub goes-on : r .more ≡ true → (r .failed ≡ false) × (isDone (stateOf (r .hub) line′) ≡ false)
+  pub more-is : r .failed ≡ false → 0 < length s → r .more ≡ not (isDone (stateOf (r .hub) line′))
 
 -- What the whole of the reading comes to: what was read is earlier, which was all said, and then last.
 pub record Reached (r : Going) (line′ : List ℕ) : Type 0 where

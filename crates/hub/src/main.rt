@@ -9,7 +9,7 @@ ghost use Prim.Native.Nat.{_≤_};
 ghost use lib.ListN.{length, take};
 ghost use Rattle.hub_run.specs.Values.{endRoom, stateOf, Sound};
 ghost use Rattle.hub.specs.Follows.{Small, Follows, Reached};
-ghost use Rattle.hub_rules.specs.Stream.{lineRoom, lineKept, over};
+ghost use Rattle.hub_rules.specs.Stream.{lineRoom, lineKept, isDone};
 
 // The state, how much of the input was read last, how many bytes of what it says were written, whether
 // more is to be read, and whether a write failed.
@@ -84,7 +84,7 @@ fn nothing(h: Hub, more: bool) -> Going
 // read that was interrupted is done again; any other that fails ends the input.
 fn read_some(h: Hub, input: &mut [u8], line: &mut [u8], out: &mut [u8]) -> Going
     requires { ⌜ (lineRoom ≤ length (now out)) × Small (now out) × Small (now input) ⌝ }
-    requires { ⌜ Sound h (now line) × (over (stateOf h (now line)) ≡ false) ⌝ }
+    requires { ⌜ Sound h (now line) × (isDone (stateOf h (now line)) ≡ false) ⌝ }
     ensures { λ r. ⌜ Follows h (now (line .entry)) (take (r .read) (now (input .exit))) r (now (line .exit)) ⌝ }
 {
     let got = libc::read(STDIN_FILENO, input);

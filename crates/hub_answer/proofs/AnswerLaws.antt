@@ -107,7 +107,7 @@ reply-refused {q} c n f =
     record { answer-is = f .0 ∙ c .answer-is; set-is = rw z (f .1); fits = omega (arith, f .2); result-is = rw (f .2, z) }
 
 reply-accepted : {q : Request} {a n : ℕ} {b : List ℕ} → Calls q a b → a ≡ 0 → n ≡ resultLength q → n ≤ length b →
-    Replies (asked q) (record { answer = 0; set = q .set; length = n }) b
+    Replies (asked q) (record { answer = 0; set = q .set; size = n }) b
 unfolding answerOf acceptedSet resultOf
 reply-accepted {q} {b = b} c z l h =
     record {
@@ -139,7 +139,7 @@ module _ {s b₀ b out out′ : List ℕ} {a : Asked} {r : ℕ} (read : Read s a
     read-sized = subst (Sized (a .seals) (a .set)) text-length (call .sized z)
 
     pub read-accepted : {n : ℕ} → n ≡ resultBytes (a .seals) (a .set) (a .text - a .ad) → length out′ ≡ length out →
-        Replies (parse s) (record { answer = 0; set = a .set; length = n }) out′
+        Replies (parse s) (record { answer = 0; set = a .set; size = n }) out′
     read-accepted {n} e l =
         let o = read .ordered good in
         let m = result-most (a .seals) (a .set) (a .text - a .ad) read-sized in
@@ -148,7 +148,7 @@ module _ {s b₀ b out out′ : List ℕ} {a : Asked} {r : ℕ} (read : Read s a
 
 -- ---- the line of output
 
-pub answered : (n k : ℕ) (s b d out : List ℕ) (r : Reply) → Replies (parse s) r b → Puts (lineText n (r .answer) (take (r .length) b)) k d out →
+pub answered : (n k : ℕ) (s b d out : List ℕ) (r : Reply) → Replies (parse s) r b → Puts (lineText n (r .answer) (take (r .size) b)) k d out →
     Answers n s (record { set = r .set; written = k }) d out
 unfolding lineFor
 answered n k s b d out r p w =

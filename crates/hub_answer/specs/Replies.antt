@@ -43,14 +43,14 @@ pub record Called (q : Request) (out : List ℕ) (r : ℕ) (out′ : List ℕ) :
 
 -- a reply that refuses
 abbrev pub Refused : ℕ → Reply → Type 0
-Refused a r = (r .answer ≡ a) × (r .set ≡ 0) × (r .length ≡ 0)
+Refused a r = (r .answer ≡ a) × (r .set ≡ 0) × (r .size ≡ 0)
 
 -- r is what a line is answered, its result being the first bytes of b
 pub record Replies (p : Parsed) (r : Reply) (b : List ℕ) : Type 0 where
   pub answer-is : r .answer ≡ answerOf p
   pub set-is : r .set ≡ acceptedSet p
-  pub fits : r .length ≤ length b
-  pub result-is : take (r .length) b ≡ resultOf p
+  pub fits : r .size ≤ length b
+  pub result-is : take (r .size) b ≡ resultOf p
 
 -- the line of output over the first bytes of d
 pub record Answers (n : ℕ) (s : List ℕ) (r : Answer) (d out : List ℕ) : Type 0 where

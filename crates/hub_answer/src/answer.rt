@@ -23,7 +23,7 @@ const RESULT_ROOM: usize = 2064;
 pub struct Reply {
     pub answer: u32,
     pub set: u32,
-    pub length: usize,
+    pub size: usize,
 }
 
 // The set of an accepted line, else 0, and how many bytes its line of output has.
@@ -78,7 +78,7 @@ fn refused(answer: u32) -> Reply
     Reply {
         answer: answer,
         set: 0,
-        length: 0,
+        size: 0,
     }
 }
 
@@ -108,7 +108,7 @@ fn reply_to(line: &[u8], result: &mut [u8]) -> Reply
     Reply {
         answer: 0,
         set: a.set,
-        length: result_bytes(a.seals, a.set, a.text - a.ad),
+        size: result_bytes(a.seals, a.set, a.text - a.ad),
     }
 }
 
@@ -119,7 +119,7 @@ pub fn answer_line(n: u32, line: &[u8], out: &mut [u8]) -> Answer
 {
     let mut result = [0u8; RESULT_ROOM];
     let r = reply_to(line, &mut result);
-    let length = r.length;
+    let length = r.size;
     let written = put_line(n, r.answer, &result[..length], out);
     Answer {
         set: r.set,

@@ -12,7 +12,7 @@ use lib.ListN.{length, take, drop, length-append, length-take, length-drop, take
 use lib.Seq.{take-at, take-nil, length-take-le}
 use Rattle.octets.proofs.Parts.{drop-put}
 use Rattle.hub_grammar.specs.Lines.{lengthBefore}
-use Rattle.hub_rules.specs.Stream.{lineKept, State, over, longer, next, after, overlaid, stored, buffer}
+use Rattle.hub_rules.specs.Stream.{lineKept, State, isDone, longer, next, after, overlaid, stored, buffer}
 use Rattle.hub_rules.proofs.StreamLaws.{stays-open}
 use Rattle.octets.proofs.Tests.{le-or-lt}
 
@@ -22,13 +22,13 @@ buffer-append st b [] t = refl
 buffer-append st b (c ∷ s) t = buffer-append (next st c) (stored st b c) s t
 
 -- where nothing more is read, nothing more is kept
-pub over-keeps : (st : State) → over st ≡ true → (b s : List ℕ) → buffer st b s ≡ b
+pub over-keeps : (st : State) → isDone st ≡ true → (b s : List ℕ) → buffer st b s ≡ b
 unfolding buffer next stored
 over-keeps st o b [] = refl
 over-keeps st o b (c ∷ s) = rw o (over-keeps st o b s)
 
 -- nothing is kept of LF
-pub end-keeps : (st : State) → over st ≡ false → (b : List ℕ) → buffer st b (10 ∷ []) ≡ b
+pub end-keeps : (st : State) → isDone st ≡ false → (b : List ℕ) → buffer st b (10 ∷ []) ≡ b
 unfolding buffer stored
 end-keeps st o b = rw o refl
 
@@ -53,7 +53,7 @@ overlaid-length at c b h =
     length-append (take at b) ((c ∷ []) ++ drop (at + 1) b)
     ∙ omega (arith, length-append (c ∷ []) (drop (at + 1) b), length-take-le at b (omega arith), length-drop (at + 1) b)
 
-module _ (st : State) (c : ℕ) (b : List ℕ) (o : over st ≡ false) (e : eqb c 10 ≡ false) (m : lineKept ≤ length b) where
+module _ (st : State) (c : ℕ) (b : List ℕ) (o : isDone st ≡ false) (e : eqb c 10 ≡ false) (m : lineKept ≤ length b) where
   -- a byte that is kept, and one that is not
   one-in : length (st .line) < lineKept → (length (next st c .line) ≡ length (st .line) + 1) × (stored st b c ≡ overlaid (length (st .line)) (c ∷ []) b)
   unfolding next longer stored
@@ -68,14 +68,14 @@ module _ (st : State) (c : ℕ) (b : List ℕ) (o : over st ≡ false) (e : eqb 
       (length-take lineKept (st .line ++ (c ∷ [])) ∙ omega (arith, length-append (st .line) (c ∷ []), h), refl)
 
 -- the bytes before LF go over the buffer from the line's end on, as many as are kept
-pub piece-kept : (s : List ℕ) (st : State) (b : List ℕ) → over st ≡ false → length (st .line) ≤ lineKept → lineKept ≤ length b →
+pub piece-kept : (s : List ℕ) (st : State) (b : List ℕ) → isDone st ≡ false → length (st .line) ≤ lineKept → lineKept ≤ length b →
     buffer st b (take (lengthBefore 10 s) s) ≡ overlaid (length (st .line)) (take (lineKept - length (st .line)) (take (lengthBefore 10 s) s)) b
 unfolding lengthBefore buffer
 piece-kept [] st b o h m = overlaid-none (length (st .line)) b ∙ ap (λ (x : List ℕ). overlaid (length (st .line)) x b) (sym (take-nil (lineKept - length (st .line))))
 piece-kept (c ∷ s) st b o h m = go (eqb c 10) refl (piece-kept s)
   where
     go : (x : Bool) → eqb c 10 ≡ x →
-        ((st : State) (b : List ℕ) → over st ≡ false → length (st .line) ≤ lineKept → lineKept ≤ length b →
+        ((st : State) (b : List ℕ) → isDone st ≡ false → length (st .line) ≤ lineKept → lineKept ≤ length b →
         buffer st b (take (lengthBefore 10 s) s) ≡ overlaid (length (st .line)) (take (lineKept - length (st .line)) (take (lengthBefore 10 s) s)) b) →
         buffer st b (take (cond x 0 (suc (lengthBefore 10 s))) (c ∷ s)) ≡ overlaid (length (st .line)) (take (lineKept - length (st .line)) (take (cond x 0 (suc (lengthBefore 10 s))) (c ∷ s))) b
     go true e ih = overlaid-none (length (st .line)) b ∙ ap (λ (x : List ℕ). overlaid (length (st .line)) x b) (sym (take-nil (lineKept - length (st .line))))

@@ -17,7 +17,7 @@ use Rattle.hub_rules.specs.Answers.{acceptedSet, lineFor}
 use Rattle.hub_grammar.proofs.Grammar.{parse-long}
 use Rattle.hub_rules.proofs.StreamLaws.{after-append, output-append, over-stays, kept, kept-more}
 use Rattle.hub_rules.specs.Whole.{lastLine, firstLine, heading, wrongFirst, summaryHead, linesFrom, atMost, answersFrom, countFor, rowFor, rowsFrom, afterFirst, outputOf, hub}
-use Rattle.hub_rules.specs.Stream.{lineKept, State, begin, over, counted, ended, endSays, longer, next, says, after, output, pending, rowsOf, summary, ending, outputs, joined, Cutting}
+use Rattle.hub_rules.specs.Stream.{lineKept, State, begin, isDone, counted, ended, endSays, longer, next, says, after, output, pending, rowsOf, summary, ending, outputs, joined, Cutting}
 
 -- ---- chunks
 
@@ -34,16 +34,16 @@ outputs-whole st (a ∷ chunks) =
     ∙ sym (append-assoc (output st a) (output (after st a) s) (ending (after (after st a) s)))
     ∙ ap₂ (λ (x : List ℕ) (y : State). x ++ ending y) (sym (output-append st a s)) (sym (after-append st a s))
 
-over-whole : (st : State) → over st ≡ true → (s : List ℕ) → whole st s ≡ ending st
+over-whole : (st : State) → isDone st ≡ true → (s : List ℕ) → whole st s ≡ ending st
 unfolding whole
 over-whole st o s = let e = over-stays st o s in rw (e .0, e .1) refl
 
 -- a byte
-whole-end : (st : State) (c : ℕ) (s : List ℕ) → over st ≡ false → eqb c 10 ≡ true → whole st (c ∷ s) ≡ endSays st ++ whole (ended st) s
+whole-end : (st : State) (c : ℕ) (s : List ℕ) → isDone st ≡ false → eqb c 10 ≡ true → whole st (c ∷ s) ≡ endSays st ++ whole (ended st) s
 unfolding whole output after next says
 whole-end st c s o t = rw (o, t) (append-assoc (endSays st) (output (ended st) s) (ending (after (ended st) s)))
 
-whole-more : (st : State) (c : ℕ) (s : List ℕ) → over st ≡ false → eqb c 10 ≡ false → whole st (c ∷ s) ≡ whole (longer st (c ∷ [])) s
+whole-more : (st : State) (c : ℕ) (s : List ℕ) → isDone st ≡ false → eqb c 10 ≡ false → whole st (c ∷ s) ≡ whole (longer st (c ∷ [])) s
 unfolding whole output after next says
 whole-more st c s o n = rw (o, n) refl
 
@@ -71,8 +71,8 @@ empty-kept = kept-same (λ (v : List ℕ). eqb (length v) 0) false (λ v h. ne-e
 reading : ℕ → List ℕ → List ℕ → State
 reading n cs w = record { lines = n; wrong = false; counts = cs; line = take lineKept w }
 
-reading-over : (n : ℕ) (cs w : List ℕ) → over (reading n cs w) ≡ eqb n (lastLine + 1)
-unfolding over reading
+reading-over : (n : ℕ) (cs w : List ℕ) → isDone (reading n cs w) ≡ eqb n (lastLine + 1)
+unfolding isDone reading
 reading-over n cs w = refl
 
 reading-longer : (n : ℕ) (cs w s : List ℕ) → longer (reading n cs w) s ≡ reading n cs (w ++ s)
@@ -111,7 +111,7 @@ atMost-none (suc k) = refl
 
 -- whether the last line ended without LF
 reading-pending : (n : ℕ) (cs w : List ℕ) → 0 < n → pending (reading n cs w) ≡ (not (eqb n (lastLine + 1)) && not (eqb (length w) 0))
-unfolding pending over reading
+unfolding pending isDone reading
 reading-pending n cs w h = rw (later n cs w h, empty-kept w) refl
 
 settled : (n : ℕ) (cs w : List ℕ) → pending (reading n cs w) ≡ false → ending (reading n cs w) ≡ rest n cs []
@@ -140,7 +140,7 @@ byte-law : (c : ℕ) (s w : List ℕ) (n k : ℕ) (cs : List ℕ) → 0 < n → 
 unfolding linesFrom atMost
 byte-law c s w n k cs h e ended-is longer-is = go (eqb c 10) refl
   where
-    still : over (reading n cs w) ≡ false
+    still : isDone (reading n cs w) ≡ false
     still = reading-over n cs w ∙ ne-eqb n (lastLine + 1) (λ z. absurd (omega (arith, z, e)))
 
     go : (b : Bool) → eqb c 10 ≡ b → whole (reading n cs w) (c ∷ s) ≡ rest n cs (atMost (suc k) (cond b (w ∷ linesFrom [] s) (linesFrom (w ++ (c ∷ [])) s)))
@@ -200,7 +200,7 @@ after-first s =
 
 -- a first line that has ended, with the rest of the input
 first-line : (w s : List ℕ) → endSays (reading 0 (replicate 10 0) w) ++ whole (ended (reading 0 (replicate 10 0) w)) s ≡ outputOf (w ∷ linesFrom [] s)
-unfolding outputOf endSays ended reading over ending pending summary
+unfolding outputOf endSays ended reading isDone ending pending summary
 first-line w s = rw (first-kept w) (go (eqs w firstLine))
   where
     go : (b : Bool) → cond b [] wrongFirst ++ whole (record { lines = 1; wrong = not b; counts = replicate 10 0; line = [] }) s ≡ cond b (afterFirst (linesFrom [] s)) wrongFirst
@@ -208,7 +208,7 @@ first-line w s = rw (first-kept w) (go (eqs w firstLine))
     go false = ap (λ (x : List ℕ). wrongFirst ++ x) (over-whole (record { lines = 1; wrong = true; counts = replicate 10 0; line = [] }) refl s)
 
 first-end : (w : List ℕ) → ending (reading 0 (replicate 10 0) w) ≡ outputOf (linesFrom w [])
-unfolding ending pending over reading whole output after linesFrom ended outputOf
+unfolding ending pending isDone reading whole output after linesFrom ended outputOf
 first-end w = ap (λ (x : List ℕ). endSays (reading 0 (replicate 10 0) w) ++ x) (sym (no-more (eqs (take lineKept w) firstLine))) ∙ first-line w [] ∙ empty w
   where
     no-more : (b : Bool) → ending (record { lines = 1; wrong = not b; counts = replicate 10 0; line = [] }) ≡ summary (record { lines = 1; wrong = not b; counts = replicate 10 0; line = [] })

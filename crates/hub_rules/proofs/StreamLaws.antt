@@ -13,7 +13,7 @@ use lib.Seq.{take-all, take-at, take-append-le, length-take-le}
 use Rattle.octets.proofs.Tests.{le-or-lt}
 use Rattle.hub_grammar.specs.Lines.{lengthBefore}
 use Rattle.hub_rules.specs.Whole.{rowFor}
-use Rattle.hub_rules.specs.Stream.{lineKept, State, over, counted, ended, endSays, longer, next, says, after, output, rowsOf}
+use Rattle.hub_rules.specs.Stream.{lineKept, State, isDone, counted, ended, endSays, longer, next, says, after, output, rowsOf}
 
 -- ---- chunks
 
@@ -29,7 +29,7 @@ output-append st (c ∷ a) b =
     ap (λ (x : List ℕ). says st c ++ x) (output-append (next st c) a b) ∙ sym (append-assoc (says st c) (output (next st c) a) (output (after (next st c) a) b))
 
 -- where nothing more is read, nothing more is said
-pub over-stays : (st : State) → over st ≡ true → (s : List ℕ) → (after st s ≡ st) × (output st s ≡ [])
+pub over-stays : (st : State) → isDone st ≡ true → (s : List ℕ) → (after st s ≡ st) × (output st s ≡ [])
 unfolding output after next says
 over-stays st o [] = (refl, refl)
 over-stays st o (c ∷ s) = rw o (over-stays st o s)
@@ -58,23 +58,23 @@ longer-none st h =
     ap (λ (x : List ℕ). record { lines = st .lines; wrong = st .wrong; counts = st .counts; line = x })
     (ap (take lineKept) (append-nil (st .line)) ∙ take-all lineKept (st .line) h)
 
-pub longer-over : (st : State) (s : List ℕ) → over (longer st s) ≡ over st
-unfolding longer over
+pub longer-over : (st : State) (s : List ℕ) → isDone (longer st s) ≡ isDone st
+unfolding longer isDone
 longer-over st s = refl
 
 longer-most : (st : State) (s : List ℕ) → length (longer st s .line) ≤ lineKept
 unfolding longer
 longer-most st s = omega (arith, length-take lineKept (st .line ++ s))
 
-next-more : (st : State) (c : ℕ) → over st ≡ false → eqb c 10 ≡ false → (next st c ≡ longer st (c ∷ [])) × (says st c ≡ [])
+next-more : (st : State) (c : ℕ) → isDone st ≡ false → eqb c 10 ≡ false → (next st c ≡ longer st (c ∷ [])) × (says st c ≡ [])
 unfolding next says
 next-more st c o e = rw (o, e) (refl, refl)
 
-pub stays-open : (st : State) (c : ℕ) → over st ≡ false → eqb c 10 ≡ false → over (next st c) ≡ false
-stays-open st c o e = ap over (next-more st c o e .0) ∙ longer-over st (c ∷ []) ∙ o
+pub stays-open : (st : State) (c : ℕ) → isDone st ≡ false → eqb c 10 ≡ false → isDone (next st c) ≡ false
+stays-open st c o e = ap isDone (next-more st c o e .0) ∙ longer-over st (c ∷ []) ∙ o
 
 -- a piece without LF
-pub piece : (s : List ℕ) (st : State) → over st ≡ false → length (st .line) ≤ lineKept →
+pub piece : (s : List ℕ) (st : State) → isDone st ≡ false → length (st .line) ≤ lineKept →
     (after st (take (lengthBefore 10 s) s) ≡ longer st (take (lengthBefore 10 s) s)) × (output st (take (lengthBefore 10 s) s) ≡ [])
 unfolding lengthBefore after output
 piece [] st o h = (sym (longer-none st h), refl)
@@ -102,11 +102,11 @@ with-end (c ∷ s) h = go (eqb c 10) refl (with-end s) h
     go true e ih h = ap (λ (x : ℕ). x ∷ []) (eqb-true c 10 e)
     go false e ih h = ap (λ (x : ℕ). take x (c ∷ s)) {x = suc (lengthBefore 10 s) + 1} {y = suc (lengthBefore 10 s + 1)} (omega arith) ∙ ap (λ (x : List ℕ). c ∷ x) (ih (omega (arith, h)))
 
-line-end : (st : State) → over st ≡ false → (after st (10 ∷ []) ≡ ended st) × (output st (10 ∷ []) ≡ endSays st)
+line-end : (st : State) → isDone st ≡ false → (after st (10 ∷ []) ≡ ended st) × (output st (10 ∷ []) ≡ endSays st)
 unfolding after output next says
 line-end st o = rw o (refl, append-nil (endSays st))
 
-pub with-line : (s : List ℕ) (st : State) → over st ≡ false → length (st .line) ≤ lineKept → lengthBefore 10 s < length s →
+pub with-line : (s : List ℕ) (st : State) → isDone st ≡ false → length (st .line) ≤ lineKept → lengthBefore 10 s < length s →
     let w = longer st (take (lengthBefore 10 s) s) in
     (after st (take (lengthBefore 10 s + 1) s) ≡ ended w) × (output st (take (lengthBefore 10 s + 1) s) ≡ endSays w)
 with-line s st o h l =

@@ -9,7 +9,7 @@ use borrow.Author.Tests.{lt-ltb, le-ltb}
 use lib.Dec.{eqb}
 use lib.ListN.{length, take, drop, length-append, drop-of-length-le}
 use Rattle.hub_grammar.specs.Lines.{lengthBefore}
-use Rattle.hub_rules.specs.Stream.{lineRoom, State, over, next, says, after, output, firstLength, lineUsed, usedFrom}
+use Rattle.hub_rules.specs.Stream.{lineRoom, State, isDone, next, says, after, output, firstLength, lineUsed, usedFrom}
 use Rattle.hub_rules.proofs.StreamLaws.{stays-open}
 
 -- ---- a line, by the bytes before LF
@@ -53,7 +53,7 @@ module _ (room : ℕ) where
   none-left st w = refl
 
   -- where nothing more is read, all is used up
-  over-used : (st : State) (w : ℕ) (s : List ℕ) → over st ≡ true → usedFrom false st room w s ≡ length s
+  over-used : (st : State) (w : ℕ) (s : List ℕ) → isDone st ≡ true → usedFrom false st room w s ≡ length s
   unfolding usedFrom next says
   over-used st w [] o = refl
   over-used st w (c ∷ s) o = rw o (ap suc (over-used st (w + 0) s o))
@@ -62,13 +62,13 @@ module _ (room : ℕ) where
   abbrev rest : State → ℕ → List ℕ → ℕ → ℕ
   rest st w s n = n + usedFrom true (after st (take n s)) room (w + length (output st (take n s))) (drop n s)
 
-  line-first : (s : List ℕ) (st : State) (w : ℕ) → over st ≡ false → usedFrom false st room w s ≡ rest st w s (firstLength s)
+  line-first : (s : List ℕ) (st : State) (w : ℕ) → isDone st ≡ false → usedFrom false st room w s ≡ rest st w s (firstLength s)
   unfolding usedFrom firstLength after output
   line-first [] st w o = omega arith
   line-first (c ∷ s) st w o = go (eqb c 10) refl (line-first s)
     where
-      go : (x : Bool) → eqb c 10 ≡ x → ((st : State) (w : ℕ) → over st ≡ false → usedFrom false st room w s ≡ rest st w s (firstLength s)) →
-          suc (usedFrom (not (over st) && x) (next st c) room (w + length (says st c)) s) ≡ rest st w (c ∷ s) (suc (cond x 0 (firstLength s)))
+      go : (x : Bool) → eqb c 10 ≡ x → ((st : State) (w : ℕ) → isDone st ≡ false → usedFrom false st room w s ≡ rest st w s (firstLength s)) →
+          suc (usedFrom (not (isDone st) && x) (next st c) room (w + length (says st c)) s) ≡ rest st w (c ∷ s) (suc (cond x 0 (firstLength s)))
       go true e ih =
           ap suc
           (ap₂ (λ (new : Bool) (k : ℕ). usedFrom new (next st c) room k s) (ap (λ (z : Bool). not z && true) o)
@@ -87,9 +87,9 @@ module _ (room : ℕ) where
 
   pub line-used : (st : State) (w : ℕ) (s : List ℕ) (n : ℕ) → n ≡ lineUsed st s →
       usedFrom false st room w s ≡ n + usedFrom true (after st (take n s)) room (w + length (output st (take n s))) (drop n s)
-  line-used st w s n e = go (over st) refl ∙ ap (rest st w s) (sym e)
+  line-used st w s n e = go (isDone st) refl ∙ ap (rest st w s) (sym e)
     where
-      go : (x : Bool) → over st ≡ x → usedFrom false st room w s ≡ rest st w s (cond x (length s) (firstLength s))
+      go : (x : Bool) → isDone st ≡ x → usedFrom false st room w s ≡ rest st w s (cond x (length s) (firstLength s))
       go true o =
           over-used st w s o
           ∙ sym

@@ -33,8 +33,8 @@ unfoldable pub begin : State
 begin = record { lines = 0; wrong = false; counts = replicate 10 0; line = [] }
 
 -- nothing more is read: the first line was wrong, or the last line has ended
-unfoldable pub over : State → Bool
-over st = st .wrong || eqb (st .lines) (lastLine + 1)
+unfoldable pub isDone : State → Bool
+isDone st = st .wrong || eqb (st .lines) (lastLine + 1)
 
 -- one more for a set, the list's first count being that of set i; none for 0
 unfoldable pub counted : ℕ → ℕ → List ℕ → List ℕ
@@ -62,10 +62,10 @@ unfoldable pub longer : State → List ℕ → State
 longer st s = record { lines = st .lines; wrong = st .wrong; counts = st .counts; line = take lineKept (st .line ++ s) }
 
 unfoldable pub next : State → ℕ → State
-next st c = cond (over st) st (cond (eqb c 10) (ended st) (longer st (c ∷ [])))
+next st c = cond (isDone st) st (cond (eqb c 10) (ended st) (longer st (c ∷ [])))
 
 unfoldable pub says : State → ℕ → List ℕ
-says st c = cond (over st) [] (cond (eqb c 10) (endSays st) [])
+says st c = cond (isDone st) [] (cond (eqb c 10) (endSays st) [])
 
 -- ---- a chunk
 
@@ -86,7 +86,7 @@ overlaid at t b = take at b ++ (t ++ drop (at + length t) b)
 -- after a byte, which is put at the end of the line, where it is kept
 unfoldable pub stored : State → List ℕ → ℕ → List ℕ
 stored st b c =
-    cond (over st) b (cond (eqb c 10) b (cond (ltb (length (st .line)) lineKept) (overlaid (length (st .line)) (c ∷ []) b) b))
+    cond (isDone st) b (cond (eqb c 10) b (cond (ltb (length (st .line)) lineKept) (overlaid (length (st .line)) (c ∷ []) b) b))
 
 -- after a chunk
 unfoldable pub buffer : State → List ℕ → List ℕ → List ℕ
@@ -101,7 +101,7 @@ firstLength [] = 0
 firstLength (c ∷ s) = suc (cond (eqb c 10) 0 (firstLength s))
 
 abbrev pub lineUsed : State → List ℕ → ℕ
-lineUsed st s = cond (over st) (length s) (firstLength s)
+lineUsed st s = cond (isDone st) (length s) (firstLength s)
 
 -- One line after the other, as long as the output has room for a line more. room is the output's length, w what has been
 -- said; new says that a line has just ended.
@@ -109,7 +109,7 @@ unfoldable pub usedFrom : Bool → State → ℕ → ℕ → List ℕ → ℕ
 usedFrom new st room w [] = 0
 usedFrom new st room w (c ∷ s) =
     cond (new && ltb (room - w) lineRoom) 0
-    (suc (usedFrom (not (over st) && eqb c 10) (next st c) room (w + length (says st c)) s))
+    (suc (usedFrom (not (isDone st) && eqb c 10) (next st c) room (w + length (says st c)) s))
 
 abbrev pub chunkUsed : State → ℕ → List ℕ → ℕ
 chunkUsed st room s = usedFrom true st room 0 s
@@ -118,7 +118,7 @@ chunkUsed st room s = usedFrom true st room 0 s
 
 -- a line without LF, or no first line
 unfoldable pub pending : State → Bool
-pending st = not (over st) && (eqb (st .lines) 0 || not (eqb (length (st .line)) 0))
+pending st = not (isDone st) && (eqb (st .lines) 0 || not (eqb (length (st .line)) 0))
 
 -- the rows, the list's first count being that of set i
 unfoldable pub rowsOf : ℕ → List ℕ → List ℕ

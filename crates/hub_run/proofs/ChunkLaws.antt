@@ -14,8 +14,8 @@ use Rattle.hub_grammar.specs.Lines.{lengthBefore}
 use Rattle.text.specs.Writing.{Puts}
 use Rattle.hub_run.specs.declared.state.Hub.{Hub}
 use Rattle.hub_run.specs.declared.chunk.Fed.{Fed}
-use Rattle.hub_rules.specs.Stream.{lineRoom, lineKept, State, over, ended, endSays, longer, next, after, output, overlaid, buffer, usedFrom, chunkUsed}
-use Rattle.hub_run.specs.Values.{stateOf, Sound, Goes, Keeps, FeedsLine, FeedsChunk}
+use Rattle.hub_rules.specs.Stream.{lineRoom, lineKept, State, isDone, ended, endSays, longer, next, after, output, overlaid, buffer, usedFrom, chunkUsed}
+use Rattle.hub_run.specs.Values.{stateOf, Sound, Goes, KeepsPiece, FeedsLine, FeedsChunk}
 use Rattle.hub_rules.proofs.StreamLaws.{after-append, output-append, over-stays, longer-over, piece, with-end, with-line}
 use Rattle.hub_rules.proofs.BufferLaws.{buffer-append, over-keeps, end-keeps, piece-kept}
 use Rattle.hub_rules.proofs.UsedLaws.{first-all, first-line, goes-on, stops, none-left, line-used}
@@ -42,12 +42,12 @@ take-least s k n e =
     (λ (q : k < length s). ap (λ (i : ℕ). take i s) {x = n} {y = k} (omega (arith, e, q)))
     (le-or-lt (length s) k)
 
-module _ (h : Hub) (line piece last : List ℕ) (n : ℕ) (s : Sound h line) (e : n ≡ min (length piece) (lineKept - h .length)) (w : last ≡ take n piece ++ drop (length (take n piece)) (take (length line - h .length) (drop (h .length) line))) where
-  pub keeps : let line′ = take (h .length) line ++ (last ++ drop (length line - h .length) (drop (h .length) line)) in
-      Keeps h line piece (record { lines = h .lines; wrong = h .wrong; counts = h .counts; length = h .length + n }) line′
+module _ (h : Hub) (line piece last : List ℕ) (n : ℕ) (s : Sound h line) (e : n ≡ min (length piece) (lineKept - h .kept)) (w : last ≡ take n piece ++ drop (length (take n piece)) (take (length line - h .kept) (drop (h .kept) line))) where
+  pub keeps : let line′ = take (h .kept) line ++ (last ++ drop (length line - h .kept) (drop (h .kept) line)) in
+      KeepsPiece h line piece (record { lines = h .lines; wrong = h .wrong; counts = h .counts; kept = h .kept + n }) line′
   unfolding longer
   keeps =
-      let at = h .length in
+      let at = h .kept in
       let t = take n piece in
       let a = take at line in
       let lt : length t ≡ n = length-take n piece ∙ omega (arith, e) in
@@ -75,10 +75,10 @@ module _ (h : Hub) (line piece last : List ℕ) (n : ℕ) (s : Sound h line) (e 
 -- ---- feeding
 
 module _ (h : Hub) (line chunk : List ℕ) (s : Sound h line) where
-  line-size : length (take (h .length) line) ≤ lineKept
-  line-size = omega (arith, length-take (h .length) line, s .line-most)
+  line-size : length (take (h .kept) line) ≤ lineKept
+  line-size = omega (arith, length-take (h .kept) line, s .line-most)
 
-  pub feeds-over : (d : List ℕ) → over (stateOf h line) ≡ true → FeedsLine h line chunk (record { hub = h; used = length chunk; written = 0 }) line d d
+  pub feeds-over : (d : List ℕ) → isDone (stateOf h line) ≡ true → FeedsLine h line chunk (record { hub = h; used = length chunk; written = 0 }) line d d
   feeds-over d o =
       let e = over-stays (stateOf h line) o (take (length chunk) chunk) in
       record {
@@ -90,11 +90,11 @@ module _ (h : Hub) (line chunk : List ℕ) (s : Sound h line) where
         line-is = sym (over-keeps (stateOf h line) o line (take (length chunk) chunk));
       }
 
-  module _ (o : over (stateOf h line) ≡ false) (n : ℕ) (b : n ≡ lengthBefore 10 chunk) (k : Hub) (line′ : List ℕ) (t : Keeps h line (take n chunk) k line′) where
+  module _ (o : isDone (stateOf h line) ≡ false) (n : ℕ) (b : n ≡ lengthBefore 10 chunk) (k : Hub) (line′ : List ℕ) (t : KeepsPiece h line (take n chunk) k line′) where
     -- the buffer after the piece
     piece-is : line′ ≡ buffer (stateOf h line) line (take n chunk)
     piece-is =
-        let at : length (take (h .length) line) ≡ h .length = length-take-le (h .length) line (omega (arith, s .room, s .line-most)) in
+        let at : length (take (h .kept) line) ≡ h .kept = length-take-le (h .kept) line (omega (arith, s .room, s .line-most)) in
         t .line-is
         ∙ ap (λ (x : ℕ). overlaid x (take (lineKept - x) (take n chunk)) line) (sym at)
         ∙ rw b (sym (piece-kept chunk (stateOf h line) line o line-size (s .room)))

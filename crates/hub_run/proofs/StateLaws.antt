@@ -16,7 +16,7 @@ use Rattle.hub_rules.specs.Answers.{acceptedSet, lineFor}
 use Rattle.text.specs.Writing.{Puts}
 use Rattle.hub_run.specs.declared.state.Hub.{Hub}
 use Rattle.hub_rules.specs.Whole.{lastLine, firstLine, wrongFirst}
-use Rattle.hub_rules.specs.Stream.{begin, over, counted, ended, endSays, pending}
+use Rattle.hub_rules.specs.Stream.{begin, isDone, counted, ended, endSays, pending}
 use Rattle.hub_run.specs.Values.{stateOf, Below, Sound, Begins, IsOver, IsPending, Goes}
 use Rattle.hub_rules.proofs.StreamLaws.{counted-most}
 use Rattle.octets.proofs.Tests.{le-or-lt}
@@ -24,11 +24,11 @@ use Rattle.octets.proofs.Tests.{le-or-lt}
 -- ---- the tests
 
 pub over-wrong : (h : Hub) → h .wrong ≡ true → IsOver h true
-unfolding over
+unfolding isDone
 over-wrong h e line = rw e refl
 
 pub over-lines : (h : Hub) → h .wrong ≡ false → IsOver h (eqb (h .lines) (lastLine + 1))
-unfolding over
+unfolding isDone
 over-lines h e line = rw e refl
 
 pub pending-over : (h : Hub) → IsOver h true → IsPending h false
@@ -39,9 +39,9 @@ pub pending-first : (h : Hub) → IsOver h false → h .lines ≡ 0 → IsPendin
 unfolding pending
 pending-first h o e line s = rw (← o line, e) refl
 
-pub pending-line : (h : Hub) → IsOver h false → (h .lines ≡ 0 → ⊥) → IsPending h (not (eqb (h .length) 0))
+pub pending-line : (h : Hub) → IsOver h false → (h .lines ≡ 0 → ⊥) → IsPending h (not (eqb (h .kept) 0))
 unfolding pending
-pending-line h o n line s = rw (← o line, ne-eqb (h .lines) 0 n, length-take-le (h .length) line (omega (arith, s .room, s .line-most))) refl
+pending-line h o n line s = rw (← o line, ne-eqb (h .lines) 0 n, length-take-le (h .kept) line (omega (arith, s .room, s .line-most))) refl
 
 -- ---- the counts
 
@@ -50,15 +50,15 @@ zeros zero i = refl
 zeros (suc k) zero = refl
 zeros (suc k) (suc i) = zeros k i
 
-pub begins : Begins (record { lines = 0; wrong = false; counts = replicate 10 0; length = 0 })
+pub begins : Begins (record { lines = 0; wrong = false; counts = replicate 10 0; kept = 0 })
 unfolding begin
 begins line h = (record { room = h; line-most = omega arith; lines-most = omega arith; counts-most = λ i. omega (arith, zeros 10 i) }, refl)
 
 -- ---- a line's end
 
-pub goes-first : (h : Hub) (line d out : List ℕ) (b : Bool) (r : ℕ) → Sound h line → h .lines ≡ 0 → b ≡ eqs (take (h .length) line) firstLine →
+pub goes-first : (h : Hub) (line d out : List ℕ) (b : Bool) (r : ℕ) → Sound h line → h .lines ≡ 0 → b ≡ eqs (take (h .kept) line) firstLine →
     Puts (cond b [] wrongFirst) r d out →
-    Goes (ended (stateOf h line)) (endSays (stateOf h line)) (record { lines = 1; wrong = not b; counts = h .counts; length = 0 }) line r d out
+    Goes (ended (stateOf h line)) (endSays (stateOf h line)) (record { lines = 1; wrong = not b; counts = h .counts; kept = 0 }) line r d out
 unfolding ended endSays
 goes-first h line d out b r s e w p =
     record {
@@ -67,9 +67,9 @@ goes-first h line d out b r s e w p =
       said = rw (e, ← w) p;
     }
 
-pub goes-later : (h : Hub) (line d out cs : List ℕ) (a r : ℕ) → Sound h line → 0 < h .lines → h .lines ≤ lastLine → a ≡ acceptedSet (parse (take (h .length) line)) →
-    cs ≡ counted 1 a (h .counts) → Puts (lineFor (h .lines) (take (h .length) line)) r d out →
-    Goes (ended (stateOf h line)) (endSays (stateOf h line)) (record { lines = h .lines + 1; wrong = false; counts = cs; length = 0 }) line r d out
+pub goes-later : (h : Hub) (line d out cs : List ℕ) (a r : ℕ) → Sound h line → 0 < h .lines → h .lines ≤ lastLine → a ≡ acceptedSet (parse (take (h .kept) line)) →
+    cs ≡ counted 1 a (h .counts) → Puts (lineFor (h .lines) (take (h .kept) line)) r d out →
+    Goes (ended (stateOf h line)) (endSays (stateOf h line)) (record { lines = h .lines + 1; wrong = false; counts = cs; kept = 0 }) line r d out
 unfolding ended endSays
 goes-later h line d out cs a r s p q x y w =
     let n : eqb (h .lines) 0 ≡ false = ne-eqb (h .lines) 0 (λ e. absurd (omega (arith, e, p))) in
@@ -84,8 +84,8 @@ pub counts-below : (h : Hub) (line : List ℕ) → Sound h line → Below (h .co
 counts-below h line s i = omega (arith, s .counts-most i, s .lines-most)
 
 -- where more is read, the last line has not ended
-pub still-open : (h : Hub) (line : List ℕ) → Sound h line → over (stateOf h line) ≡ false → h .lines ≤ lastLine
-unfolding over
+pub still-open : (h : Hub) (line : List ℕ) → Sound h line → isDone (stateOf h line) ≡ false → h .lines ≤ lastLine
+unfolding isDone
 still-open h line s o =
     ⊎-elim
     (λ (q : h .lines ≤ lastLine). q)

@@ -15,7 +15,7 @@ use Rattle.hub_rules.proofs.StreamLaws.{rows-append, one-row}
 use Rattle.text.proofs.WritingLaws.{middle-length, puts-most, puts-then}
 use Rattle.hub_rules.specs.Whole.{summaryHead, rowFor}
 use Rattle.hub_run.specs.declared.state.Hub.{Hub}
-use Rattle.hub_rules.specs.Stream.{State, over, ended, endSays, pending, rowsOf, summary, ending}
+use Rattle.hub_rules.specs.Stream.{State, isDone, ended, endSays, pending, rowsOf, summary, ending}
 use Rattle.hub_run.specs.Values.{stateOf, Goes}
 
 -- ---- a row
@@ -87,11 +87,11 @@ module _ (h : Hub) (line d : List ℕ) where
       rw (p, ← g .state-is) (puts-then d out (endSays (stateOf h line)) (summary _) last i j (g .said) m w)
 
 -- where a line is still to be ended, more is read
-pub pending-open : (h : Hub) (line : List ℕ) → pending (stateOf h line) ≡ true → over (stateOf h line) ≡ false
+pub pending-open : (h : Hub) (line : List ℕ) → pending (stateOf h line) ≡ true → isDone (stateOf h line) ≡ false
 unfolding pending
-pending-open h line p = go (over (stateOf h line)) p
+pending-open h line p = go (isDone (stateOf h line)) p
   where
-    go : (b : Bool) → (not b && (eqb (h .lines) 0 || not (eqb (length (take (h .length) line)) 0))) ≡ true → b ≡ false
+    go : (b : Bool) → (not b && (eqb (h .lines) 0 || not (eqb (length (take (h .kept) line)) 0))) ≡ true → b ≡ false
     go true e = absurd (subst T (sym e) tt)
     go false e = refl
 

@@ -9,7 +9,7 @@ use Rattle.text.specs.Writing.{Puts}
 use Rattle.hub_run.specs.declared.state.Hub.{Hub}
 use Rattle.hub_run.specs.declared.line.Step.{Step}
 use Rattle.hub_run.specs.declared.chunk.Fed.{Fed}
-use Rattle.hub_rules.specs.Stream.{lineRoom, lineKept, State, begin, over, ended, endSays, longer, after, output, overlaid, buffer, lineUsed, chunkUsed, pending}
+use Rattle.hub_rules.specs.Stream.{lineRoom, lineKept, State, begin, isDone, ended, endSays, longer, after, output, overlaid, buffer, lineUsed, chunkUsed, pending}
 use Rattle.hub_rules.specs.Whole.{lastLine}
 
 -- room for the summary: its heading, and ten rows of at most 12 bytes
@@ -21,7 +21,7 @@ abbrev pub endRoom : ℕ
 endRoom = lineRoom + summaryRoom
 
 abbrev pub stateOf : Hub → List ℕ → State
-stateOf h line = record { lines = h .lines; wrong = h .wrong; counts = h .counts; line = take (h .length) line }
+stateOf h line = record { lines = h .lines; wrong = h .wrong; counts = h .counts; line = take (h .kept) line }
 
 -- every number of a list is below n
 abbrev pub Below : List ℕ → ℕ → Type 0
@@ -30,7 +30,7 @@ Below s n = (i : ℕ) → getD s i 0 < n
 -- what holds of every state that a run comes to
 pub record Sound (h : Hub) (line : List ℕ) : Type 0 where
   pub room : lineKept ≤ length line
-  pub line-most : h .length ≤ lineKept
+  pub line-most : h .kept ≤ lineKept
   pub lines-most : h .lines ≤ lastLine + 1
   pub counts-most : (i : ℕ) → getD (h .counts) i 0 ≤ h .lines - 1
 
@@ -40,7 +40,7 @@ Begins h = (line : List ℕ) → lineKept ≤ length line → Sound h line × (s
 
 -- the answers of two tests, with any buffer
 abbrev pub IsOver : Hub → Bool → Type 0
-IsOver h r = (line : List ℕ) → r ≡ over (stateOf h line)
+IsOver h r = (line : List ℕ) → r ≡ isDone (stateOf h line)
 
 abbrev pub IsPending : Hub → Bool → Type 0
 IsPending h r = (line : List ℕ) → Sound h line → r ≡ pending (stateOf h line)
@@ -56,10 +56,10 @@ abbrev pub Ends : Hub → List ℕ → Step → List ℕ → List ℕ → Type 0
 Ends h line r d out = Goes (ended (stateOf h line)) (endSays (stateOf h line)) (r .hub) line (r .written) d out
 
 -- what keeping more of the line promises
-pub record Keeps (h : Hub) (line piece : List ℕ) (r : Hub) (line′ : List ℕ) : Type 0 where
+pub record KeepsPiece (h : Hub) (line piece : List ℕ) (r : Hub) (line′ : List ℕ) : Type 0 where
   pub sound : Sound r line′
   pub state-is : stateOf r line′ ≡ longer (stateOf h line) piece
-  pub line-is : line′ ≡ overlaid (h .length) (take (lineKept - h .length) piece) line
+  pub line-is : line′ ≡ overlaid (h .kept) (take (lineKept - h .kept) piece) line
 
 -- what feeding n bytes of a chunk promises; where it has a byte, one at least is used up
 pub record Feeds (n : ℕ) (h : Hub) (line chunk : List ℕ) (r : Fed) (line′ d out : List ℕ) : Type 0 where

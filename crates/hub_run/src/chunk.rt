@@ -7,7 +7,7 @@ use crate::state::is_over;
 ghost use mathlib.Core.Path.{_≡_};
 ghost use Prim.Native.Nat.{_≤_, min};
 ghost use lib.ListN.{length};
-ghost use Rattle.hub_run.specs.Values.{Sound, Keeps, FeedsLine, FeedsChunk};
+ghost use Rattle.hub_run.specs.Values.{Sound, KeepsPiece, FeedsLine, FeedsChunk};
 ghost use Rattle.hub_rules.specs.Stream.{lineRoom};
 
 // The next state, how many bytes of the chunk are used up, and how many are said.
@@ -26,9 +26,9 @@ fn least(a: usize, b: usize) -> usize
 // More of the line, as much of it as is kept.
 fn keep(h: Hub, line: &mut [u8], piece: &[u8]) -> Hub
     requires { ⌜ Sound h (now line) ⌝ }
-    ensures { λ r. ⌜ Keeps h (now (line .entry)) (now (piece .entry)) r (now (line .exit)) ⌝ }
+    ensures { λ r. ⌜ KeepsPiece h (now (line .entry)) (now (piece .entry)) r (now (line .exit)) ⌝ }
 {
-    let at = h.length;
+    let at = h.kept;
     let counts = h.counts;
     let n = least(piece.len(), LINE_KEPT - at);
     octets::put(&mut line[at..], &piece[..n]);
@@ -36,7 +36,7 @@ fn keep(h: Hub, line: &mut [u8], piece: &[u8]) -> Hub
         lines: h.lines,
         wrong: h.wrong,
         counts: counts,
-        length: at + n,
+        kept: at + n,
     }
 }
 

@@ -11,7 +11,7 @@ ghost use Prim.Native.Nat.{_≤_};
 ghost use lib.ListN.{length};
 ghost use Rattle.text.specs.Writing.{Puts};
 ghost use Rattle.hub_rules.specs.Whole.{summaryHead};
-ghost use Rattle.hub_rules.specs.Stream.{lineRoom, over, summary, ending};
+ghost use Rattle.hub_rules.specs.Stream.{lineRoom, isDone, summary, ending};
 ghost use Rattle.hub_run.specs.Values.{summaryRoom, endRoom, Sound, IsPending, Ends, stateOf};
 
 // Whether the input ended within a line, or without a first line.
@@ -24,7 +24,7 @@ fn is_pending(h: Hub) -> bool
     if h.lines == 0 {
         return true;
     }
-    h.length != 0
+    h.kept != 0
 }
 
 // What the summary begins with.
@@ -52,7 +52,7 @@ fn put_summary(h: Hub, line: &[u8], out: &mut [u8]) -> usize
 
 // The end of a last line, with room left for the summary.
 fn end_last(h: Hub, line: &[u8], out: &mut [u8]) -> Step
-    requires { ⌜ over (stateOf h (now line)) ≡ false ⌝ }
+    requires { ⌜ isDone (stateOf h (now line)) ≡ false ⌝ }
     requires { ⌜ lineRoom ≤ length (now out) ⌝ }
     requires { ⌜ Sound h (now line) ⌝ }
     ensures { λ r. ⌜ (r .written ≤ lineRoom) × Ends h (now (line .entry)) r (now (out .entry)) (now (out .exit)) ⌝ }

@@ -8,7 +8,7 @@ ghost use lib.ListN.{length};
 ghost use Rattle.octets.specs.Strings.{eqs};
 ghost use Rattle.text.specs.Writing.{Puts};
 ghost use Rattle.hub_rules.specs.Whole.{lastLine, firstLine, wrongFirst};
-ghost use Rattle.hub_rules.specs.Stream.{lineRoom, over, counted};
+ghost use Rattle.hub_rules.specs.Stream.{lineRoom, isDone, counted};
 ghost use Rattle.hub_run.specs.Values.{Below, Sound, Ends, stateOf};
 
 // The next state, and how many bytes are said.
@@ -55,14 +55,14 @@ fn end_first(h: Hub, line: &[u8], out: &mut [u8]) -> Step
     requires { ⌜ Sound h (now line) ⌝ }
     ensures { λ r. ⌜ Ends h (now (line .entry)) r (now (out .entry)) (now (out .exit)) ⌝ }
 {
-    let n = h.length;
+    let n = h.kept;
     let counts = h.counts;
     let right = is_first_line(&line[..n]);
     let next = Hub {
         lines: 1,
         wrong: !right,
         counts: counts,
-        length: 0,
+        kept: 0,
     };
     if right {
         return Step {
@@ -82,7 +82,7 @@ fn end_later(h: Hub, line: &[u8], out: &mut [u8]) -> Step
     requires { ⌜ Sound h (now line) ⌝ }
     ensures { λ r. ⌜ Ends h (now (line .entry)) r (now (out .entry)) (now (out .exit)) ⌝ }
 {
-    let n = h.length;
+    let n = h.kept;
     let counts = h.counts;
     let a = answer_line(h.lines, &line[..n], out);
     Step {
@@ -90,7 +90,7 @@ fn end_later(h: Hub, line: &[u8], out: &mut [u8]) -> Step
             lines: h.lines + 1,
             wrong: false,
             counts: count(counts, a.set),
-            length: 0,
+            kept: 0,
         },
         written: a.written,
     }
@@ -98,7 +98,7 @@ fn end_later(h: Hub, line: &[u8], out: &mut [u8]) -> Step
 
 // The end of the line that the buffer holds.
 pub fn end_line(h: Hub, line: &[u8], out: &mut [u8]) -> Step
-    requires { ⌜ over (stateOf h (now line)) ≡ false ⌝ }
+    requires { ⌜ isDone (stateOf h (now line)) ≡ false ⌝ }
     requires { ⌜ lineRoom ≤ length (now out) ⌝ }
     requires { ⌜ Sound h (now line) ⌝ }
     ensures { λ r. ⌜ Ends h (now (line .entry)) r (now (out .entry)) (now (out .exit)) ⌝ }

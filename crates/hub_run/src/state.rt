@@ -20,7 +20,7 @@ pub struct Hub {
     pub lines: u32,
     pub wrong: bool,
     pub counts: [u32; 10],
-    pub length: usize,
+    pub kept: usize,
 }
 
 // Before the first byte, with any buffer.
@@ -31,7 +31,7 @@ pub fn begin() -> Hub
         lines: 0,
         wrong: false,
         counts: [0; 10],
-        length: 0,
+        kept: 0,
     }
 }
 

@@ -15,7 +15,7 @@ put-line-requires c κs =
     let reply = c .before .before .before .reply-to in
     let m = answer-most (c .before .before .before .before .before .before .before .args .line .now) in
     let l : length (reply .last .1 .0) ≡ resultRoom = search needs in
-    let t = length-take (reply .result .length) (reply .last .1 .0) in
+    let t = length-take (reply .result .size) (reply .last .1 .0) in
     search (needs, m, t)
 
 returns : tie.Need-returns

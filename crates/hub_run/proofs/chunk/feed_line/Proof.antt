@@ -3,7 +3,7 @@
 use mathlib.Core.Path.{sym, ap, _∙_}
 use borrow.Author.Needs.{needs}
 use lib.Seq.{length-take-le}
-use Rattle.hub_rules.specs.Stream.{over}
+use Rattle.hub_rules.specs.Stream.{isDone}
 use Rattle.hub_rules.proofs.StreamLaws.{longer-over}
 use Rattle.hub_run.proofs.ChunkLaws.{feeds-over, feeds-piece, feeds-line}
 use Rattle.hub_run.proofs.chunk.feed_line.Statement.{statement}
@@ -24,7 +24,7 @@ end-line-requires : tie.Need-end-line-requires
 end-line-requires c κs =
     let at = c .before .before .before .before .before .before .before .before .before .before .before .before .before .before in
     let k = c .before .before .before .before .before .keep .ensures in
-    (ap over (k .state-is) ∙ longer-over _ _ ∙ sym (c .before .before .before .before .before .before .before .before .before .before .is-over .ensures (at .args .line .now)) ∙ c .before .before .before .before .before .before .before .before .before .if1 .left, (at .pre .0, k .sound))
+    (ap isDone (k .state-is) ∙ longer-over _ _ ∙ sym (c .before .before .before .before .before .before .before .before .before .before .is-over .ensures (at .args .line .now)) ∙ c .before .before .before .before .before .before .before .before .before .if1 .left, (at .pre .0, k .sound))
 
 returns-3 : tie.Need-returns-3
 returns-3 c =

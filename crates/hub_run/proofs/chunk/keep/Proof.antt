@@ -15,7 +15,7 @@ put-requires c κs =
     let at = c .before .before .before .before .before .before in
     let a = at .args in
     let s = at .pre in
-    omega (arith, s .room, s .line-most, c .before .before .least .ensures, length-take (c .before .before .least .result) (a .piece .now), length-take (length (a .line .now) - a .h .length) (drop (a .h .length) (a .line .now)), length-drop (a .h .length) (a .line .now))
+    omega (arith, s .room, s .line-most, c .before .before .least .ensures, length-take (c .before .before .least .result) (a .piece .now), length-take (length (a .line .now) - a .h .kept) (drop (a .h .kept) (a .line .now)), length-drop (a .h .kept) (a .line .now))
 
 returns : tie.Need-returns
 returns c =
