@@ -1,17 +1,19 @@
 -- What a record asks for, from the values that the code reads in it.
 -- Assumes nothing.
-use mathlib.Core.Path.{_≡_, refl, sym, ap}
+use mathlib.Core.Path.{_≡_, refl, sym, ap, _∙_}
 use mathlib.Core.List.{List, map}
 use Prim.Native.Nat.{ℕ, _+_, _*_, min}
-use lib.ListN.{getD, set}
-use Rattle.script.specs.Strings.{filled}
+use lib.ListN.{length, getD, set}
+use Rattle.octets.proofs.Strings.{length-table}
+use Rattle.script.specs.Strings.{seeded, filled}
 use Rattle.script.specs.Records.{two, four, eight, flag, part}
-use Rattle.ledger_rules.specs.Ledger.{Ledger, noHeadings, madeLedger, keptLedger}
+use Rattle.ledger_rules.specs.Ledger.{Ledger, noHeadings, madeLedger, nextLedger, keptLedger}
+use Rattle.ledger_rules.specs.Ledger.Source.{given, named}
 use Rattle.ledger.specs.declared.ledger.Heading as heading
 use Rattle.ledger.specs.declared.ledger.Ledger as code
 use Rattle.ledger.specs.Values.{headingOf, valueOf}
 use Rattle.ledger.proofs.HeadingLaws.{stored}
-use Rattle.ledger_script.specs.Records.{madeBy, putBy, heldWith, heldBy, keptBy}
+use Rattle.ledger_script.specs.Records.{madeBy, putBy, heldWith, heldBy, keptBy, sealedBy, namedBy}
 
 module _ {m : Ledger} (r : List ℕ) where
   pub made-so : {set console n : ℕ} → m ≡ madeLedger set (part r 8 (8 + n)) console → set ≡ four r 1 → console ≡ two r 5 → n ≡ min (getD r 7 0) 56 → m ≡ madeBy r
@@ -28,3 +30,15 @@ put-so r s k c t h l n = rw (s, k, c, t, h, l, n) refl
 pub held-so : (l : code.Ledger) (r : List ℕ) (h : heading.Heading) {i : ℕ} → i ≡ min (getD r 1 0) 7 → h .kept ≡ flag r 2 → h .sum ≡ part r 3 19 →
     heldWith (valueOf l) (map headingOf (set (l .headings) i h)) ≡ heldBy (valueOf l) r
 held-so l r h e k s = rw (e, sym k, sym s) (ap (heldWith (valueOf l)) (stored (l .headings) _ h))
+
+filled-length : {s : List ℕ} (seed n : ℕ) → s ≡ filled seed n → length s ≡ n
+filled-length seed n e = ap length e ∙ length-table (seeded seed) n
+
+module _ {m : Ledger} (l : Ledger) (r : List ℕ) {M out : List ℕ} {k : ℕ} (message room : ℕ) where
+  pub sealed-so : {A : List ℕ} (ad seed mark : ℕ) → m ≡ nextLedger l (part r 13 (13 + k)) (given A) (length M) (length out) → k ≡ min (getD r 1 0) 51 →
+      A ≡ filled (getD r 11 0) ad → M ≡ filled seed message → out ≡ filled mark room → m ≡ sealedBy l r ad message room
+  sealed-so ad seed mark e n a x y = rw (sym n, sym a, sym (filled-length seed message x), sym (filled-length mark room y)) e
+
+  pub named-so : {name : ℕ} (seed mark : ℕ) → m ≡ nextLedger l (part r 13 (13 + k)) (named name) (length M) (length out) → k ≡ min (getD r 5 0) 51 →
+      name ≡ four r 1 → M ≡ filled seed message → out ≡ filled mark room → m ≡ namedBy l r message room
+  named-so seed mark e n a x y = rw (sym n, sym a, sym (filled-length seed message x), sym (filled-length mark room y)) e

@@ -6,7 +6,8 @@ use Prim.Native.Nat.{ℕ, _+_, min}
 use lib.ListN.{getD, set}
 use Rattle.script.specs.Strings.{filled}
 use Rattle.script.specs.Records.{two, four, eight, flag, part}
-use Rattle.ledger_rules.specs.Ledger.{Heading, Ledger, noHeadings, madeLedger, keptLedger}
+use Rattle.ledger_rules.specs.Ledger.{Heading, Ledger, noHeadings, madeLedger, nextLedger, keptLedger}
+use Rattle.ledger_rules.specs.Ledger.Source.{given, named}
 
 -- make
 abbrev pub madeBy : List ℕ → Ledger
@@ -46,3 +47,11 @@ heldBy l r = heldWith l (set (l .headings) (min (getD r 1 0) 7) (record { kept =
 -- keep, with data of n bytes
 abbrev pub keptBy : Ledger → List ℕ → ℕ → Ledger
 keptBy l r n = keptLedger l (four r 1) (filled (getD r 8 0) n)
+
+-- seal and lent, with data, message and output of so many bytes
+abbrev pub sealedBy : Ledger → List ℕ → ℕ → ℕ → ℕ → Ledger
+sealedBy l r ad message out = nextLedger l (part r 13 (13 + min (getD r 1 0) 51)) (given (filled (getD r 11 0) ad)) message out
+
+-- name
+abbrev pub namedBy : Ledger → List ℕ → ℕ → ℕ → Ledger
+namedBy l r message out = nextLedger l (part r 13 (13 + min (getD r 5 0) 51)) (named (four r 1)) message out

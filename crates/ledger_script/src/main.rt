@@ -43,7 +43,7 @@ ghost use lib.ListN.{length};
 ghost use Rattle.ledger_rules.specs.Ledger.{carriedLedger};
 ghost use Rattle.ledger.specs.Values.{valueOf, Ran};
 ghost use Rattle.script.specs.Records.{part};
-ghost use Rattle.ledger_script.specs.Records.{madeBy, putBy, heldBy, keptBy};
+ghost use Rattle.ledger_script.specs.Records.{madeBy, putBy, heldBy, keptBy, sealedBy, namedBy};
 
 fn short_number(a: u8, b: u8) -> u16
     ensures { λ r. ⌜ r ≡ a * 256 + b ⌝ }
@@ -195,7 +195,11 @@ fn seal_by(kind: u8, l: Ledger, nonce: &[u8], ad: &[u8], message: &[u8], out: &m
 }
 
 // A sealing of strings that have the record's lengths.
-fn seal(l: Ledger, r: [u8; 64], ad: &mut [u8], message: &mut [u8], out: &mut [u8]) -> Ledger {
+fn seal(l: Ledger, r: [u8; 64], ad: &mut [u8], message: &mut [u8], out: &mut [u8]) -> Ledger
+    ensures { λ next. ⌜
+        valueOf next ≡ sealedBy (valueOf l) r (length (now (ad .entry))) (length (now (message .entry))) (length (now (out .entry)))
+        ⌝ }
+{
     fill(ad, r[11]);
     fill(message, r[12]);
     fill(out, 165);
@@ -216,7 +220,9 @@ fn seal_in(l: Ledger, r: [u8; 64], ad: &mut [u8], message: &mut [u8], out: &mut 
 }
 
 // A sealing by name of strings that have the record's lengths.
-fn seal_named(l: Ledger, r: [u8; 64], message: &mut [u8], out: &mut [u8]) -> Ledger {
+fn seal_named(l: Ledger, r: [u8; 64], message: &mut [u8], out: &mut [u8]) -> Ledger
+    ensures { λ next. ⌜ valueOf next ≡ namedBy (valueOf l) r (length (now (message .entry))) (length (now (out .entry))) ⌝ }
+{
     fill(message, r[12]);
     fill(out, 165);
     let end = 13 + least(r[5] as usize, 51);
