@@ -1,15 +1,16 @@
 -- What a making, a sealing of either kind, a keeping and a carrying on a ledger answer, and what they leave.
 -- Assumes nothing.
 use mathlib.Core.Path.{_≡_, refl, sym, ap, ap₂, subst, _∙_}
-use mathlib.Core.Bool.{Bool, true, false, false≢true}
+use mathlib.Core.Bool.{Bool, true, false, not, _&&_, false≢true}
 use mathlib.Core.List.{List, [], _∷_, _++_}
 use Prim.Native.Nat.{ℕ, _+_, _^_, _<_, _≤_}
 use native.Mathlib.Omega.{arith}
-use borrow.Author.Tests.{eqb-true, eqb-false, ne-eqb, ltb-false, le-ltb}
-use lib.Dec.{eqb}
+use borrow.Author.Tests.{eqb-true, eqb-false, ne-eqb, ltb-false, le-ltb, lt-ltb, lt-leb}
+use lib.Dec.{eqb, leb}
 use lib.ListN.{length, take}
 use lib.Pow.{pow-lt, pow-mono}
 use lib.Seq.{length-take-le}
+use Rattle.octets.specs.Numbers.{number}
 use Rattle.answers.specs.Rows.{Row, answer, firstOf, Passes, numbers, isIn, ownNumbers, Decides}
 use Rattle.answers.proofs.RowLaws.{not-false, accepts, passes-parts, decides, two-parts, goes-on}
 use Rattle.fips197.specs.Cipher.{cipher}
@@ -23,7 +24,7 @@ use Rattle.cba_rules.proofs.SetLaws.{set-fits, capacity-least}
 use Rattle.cba_rules.proofs.RefusalLaws.{Seals, is-length, has-length, key-passed, message-passes, message-passed, seal-untouched, seal-accepts}
 use Rattle.ledger_rules.specs.Ledger.{Ledger, noLedger, fresh, makeRows, makeAnswer, madeLedger, keyOf, consoleOf, nonceRows, stale, chargeBy, spent, ownRows, headingAt, isName, isKept, Source, sourceRow, sealCharge, ledgerChecks, ledgerRows, ledgerAnswer, charged, nextLedger, ledgerSealing, ledgerOutput, LedgerCall, keepCharge, keepRows, keepAnswer, sumOf, keeping, keptLedger, carryRows, carryAnswer, withCharge, carriedLedger}
 use Rattle.ledger_rules.specs.Ledger.Source.{given, named}
-use Rattle.ledger_rules.specs.Runs.{Blank}
+use Rattle.ledger_rules.specs.Runs.{Good, Sealable, Blank}
 
 -- ---- making
 
@@ -168,6 +169,27 @@ module _ (l : Ledger) (N : List ℕ) (S : Source) (message out : ℕ) where
   unfolding nextLedger
   next-accepted e = rw e refl
 
+-- where no check applies it is accepted
+sourced : (l : Ledger) (S : Source) → Good l S → sourceRow l S .when ≡ false
+unfolding sourceRow
+sourced l (given A) h = le-ltb 4096 (length A) h
+sourced l (named name) h = ap not h
+
+above-stale : (l : Ledger) (N : List ℕ) → (l .begun ≡ true → number (l .last) < number N) → stale l N ≡ false
+unfolding stale
+above-stale l N h = go (l .begun) refl
+  where
+    go : (x : Bool) → l .begun ≡ x → l .begun && leb (number N) (number (l .last)) ≡ false
+    go true e = rw e (lt-leb (number N) (number (l .last)) (h e))
+    go false e = rw e refl
+
+pub seal-accepted : (l : Ledger) (N : List ℕ) (S : Source) (message out : ℕ) → Sealable l N S message out → ledgerAnswer l N S message out ≡ 0
+unfolding spent
+seal-accepted l N S message out a =
+    ledger-accepts l N S message out (a .its-set)
+    (record { nonce-length = a .nonce-length; begins = a .begins; source-passes = sourced l S (a .source); seals = record { limit = a .limit; room = a .room } })
+    (above-stale l N (a .above-last)) (le-ltb (2 ^ capacity (l .set)) (l .total + sealCharge (l .heartbeats) S message) (a .within))
+
 -- what an acceptance says of the data
 pub given-limit : (l : Ledger) (N A : List ℕ) (message out : ℕ) → ledgerAnswer l N (given A) message out ≡ 0 → length A ≤ 4096
 unfolding sourceRow
@@ -241,6 +263,12 @@ module _ (l : Ledger) (name ad : ℕ) where
   pub keep-decides : Decides (keepRows l name ad) (keepAnswer l name ad)
   unfolding keepAnswer keepRows numbers isIn ownNumbers
   keep-decides = decides (keepRows l name ad) refl
+
+  pub keep-accepts : isSet (l .set) ≡ true → name < 8 → ad ≤ 4096 → l .total + keepCharge (l .heartbeats) ad ≤ 2 ^ capacity (l .set) → keepAnswer l name ad ≡ 0
+  unfolding keepAnswer keepRows isName spent
+  keep-accepts s n a c =
+      accepts (keepRows l name ad)
+      (ap not s, (ap not (lt-ltb name 8 n), (le-ltb 4096 ad a, (le-ltb (2 ^ capacity (l .set)) (l .total + keepCharge (l .heartbeats) ad) c, tt))))
 
   -- what an acceptance says
   pub record KeepAccepted : Type 0 where
@@ -350,10 +378,18 @@ module _ (b : Bool) (set : ℕ) (key : List ℕ) (console : ℕ) (N : List ℕ) 
 
   pub takes-first : (A : List ℕ) (message out : ℕ) → makeAnswer set key ≡ 0 → length N ≡ 12 → consoleOf N ≡ console → length A ≤ 4096 → message ≤ 65536 →
       message + setTag set ≤ out → ledgerAnswer (fresh b set key console) N (given A) message out ≡ 0
-  unfolding stale spent sourceRow sealCharge
+  unfolding sealCharge
   takes-first A message out e n c a m o =
       let s = make-accepted set key e .0 in
       let k = pow-mono {i = 16} {j = capacity set} (capacity-least set s) in
-      ledger-accepts (fresh b set key console) N (given A) message out s
-      (record { nonce-length = n; begins = c; source-passes = le-ltb 4096 (length A) a; seals = record { limit = m; room = o } }) refl
-      (le-ltb (2 ^ capacity set) (0 + chargeBy b (length A) message) (omega (arith, k, charge-most b (length A) message a m)))
+      seal-accepted (fresh b set key console) N (given A) message out
+      (record {
+        its-set = s;
+        nonce-length = n;
+        begins = c;
+        source = a;
+        limit = m;
+        room = o;
+        above-last = λ x. absurd (false≢true x);
+        within = omega (arith, k, charge-most b (length A) message a m);
+      })

@@ -18,7 +18,7 @@ use Rattle.ledger_rules.specs.Ledger.Source.{given, named}
 use Rattle.ledger_rules.specs.Runs.{Call, answerOn, after, run, accepted, charges, NoCarrying, beforeCarrying, sinceCarrying, lastKept, isSome, ByName, LedgerTheorems}
 use Rattle.ledger_rules.specs.Runs.Call.{seals, keeps, carries}
 use Rattle.ledger_rules.proofs.Examples.{examples}
-use Rattle.ledger_rules.proofs.LedgerLaws.{make-accepted, made-fresh, made-blank, ledger-decides, ledger-accepted, named-kept, given-name, given-plain, named-plain, keep-decides, kept-nonce, carry-decides, carry-set, carried-accepted, carried-only, carried-same, carried-twice, made-same, never-stale, takes-first}
+use Rattle.ledger_rules.proofs.LedgerLaws.{make-accepted, made-fresh, made-blank, ledger-decides, ledger-accepted, seal-accepted, keep-accepts, named-kept, given-name, given-plain, named-plain, keep-decides, kept-nonce, carry-decides, carry-set, carried-accepted, carried-only, carried-same, carried-twice, made-same, never-stale, takes-first}
 use Rattle.ledger_rules.proofs.Runs.{after-refused, run-append, same-making, in-turn, in-two, cut, sums, rises, On, names}
 use Rattle.ledger_rules.proofs.FillingLaws.{example-charges, empty-charges, takes-more, takes-no-more, sixteen, all-heartbeats}
 
@@ -139,6 +139,9 @@ ledger-theorems =
       sealing = ledger-decides;
       keeping = keep-decides;
       carrying = carry-decides;
+      seals-where = seal-accepted;
+      keeps-where = keep-accepts;
+      carries-where = carry-set;
       not-name = given-name;
       made = made-fresh;
       unmade = made-blank;

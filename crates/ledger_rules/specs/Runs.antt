@@ -161,6 +161,22 @@ pub record SameMaking (l l′ : Ledger) : Type 0 where
   pub key-stays : l′ .key ≡ l .key
   pub console-stays : l′ .console ≡ l .console
 
+-- the data of a sealing are within the limit, or something is kept under their name
+abbrev pub Good : Ledger → Source → Type 0
+Good l (given A) = length A ≤ 4096
+Good l (named name) = isKept l name ≡ true
+
+-- a sealing to which no check applies, in the documents' words
+pub record Sealable (l : Ledger) (N : List ℕ) (S : Source) (message out : ℕ) : Type 0 where
+  pub its-set : isSet (l .set) ≡ true
+  pub nonce-length : length N ≡ 12
+  pub begins : consoleOf N ≡ l .console
+  pub source : Good l S
+  pub limit : message ≤ 65536
+  pub room : message + setTag (l .set) ≤ out
+  pub above-last : l .begun ≡ true → number (l .last) < number N
+  pub within : l .total + sealCharge (l .heartbeats) S message ≤ 2 ^ capacity (l .set)
+
 -- what a list of calls from l counts
 pub record Counted (l : Ledger) (cs : List Call) : Type 0 where
   pub total : run l cs .total ≡ added l (accepted l cs)
@@ -203,6 +219,13 @@ pub record LedgerTheorems : Type 0 where
       Decides (ledgerRows l N S message out) (ledgerAnswer l N S message out)
   pub keeping : (l : Ledger) (name ad : ℕ) → Decides (keepRows l name ad) (keepAnswer l name ad)
   pub carrying : (l : Ledger) → Decides (carryRows l) (carryAnswer l)
+  -- and each is accepted wherever the documents say: such a sealing; a keeping under one of eight names, of at most 4,096 bytes, that the
+  -- capacity has room for; every carrying
+  pub seals-where : (l : Ledger) (N : List ℕ) (S : Source) (message out : ℕ) → Sealable l N S message out →
+      ledgerAnswer l N S message out ≡ 0
+  pub keeps-where : (l : Ledger) (name ad : ℕ) → isSet (l .set) ≡ true → name < 8 → ad ≤ 4096 →
+      l .total + keepCharge (l .heartbeats) ad ≤ 2 ^ capacity (l .set) → keepAnswer l name ad ≡ 0
+  pub carries-where : (l : Ledger) → isSet (l .set) ≡ true → carryAnswer l ≡ 0
   -- a sealing with data that are given never answers 13
   pub not-name : (l : Ledger) (N A : List ℕ) (message out : ℕ) → ledgerAnswer l N (given A) message out ≡ 13 → ⊥
   -- a making that is not refused gives a fresh ledger with the new charge; a refused one has zeros in every field
