@@ -51,7 +51,10 @@ module _ (set key nonce ad : ℕ) (rows : List Row) where
     p .1 .1 .1 .1,
   )
 
--- a set and a key of its length pass
+-- a set and a key of its length pass, and nothing else does
+pub key-accepts : (set key : ℕ) → isSet set ≡ true → key ≡ keyBytes set → answer (keyRows set key) ≡ 0
+key-accepts set key s k = accepts (keyRows set key) (ap not s, (has-length key (keyBytes set) k, tt))
+
 pub key-passed : (set key : ℕ) → answer (keyRows set key) ≡ 0 → (isSet set ≡ true) × (key ≡ keyBytes set)
 unfolding numbers isIn ownNumbers
 key-passed set key e = let p = passed (keyRows set key) refl e in (not-false (isSet set) (p .0), is-length key (keyBytes set) (p .1 .0))

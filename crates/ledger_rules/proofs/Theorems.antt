@@ -13,6 +13,7 @@ use Rattle.answers.proofs.RowLaws.{decides}
 use Rattle.cba_mode.specs.Sets.{isSet, keyBytes}
 use Rattle.cba_rules.specs.Refusals.{SealCall}
 use Rattle.cba_rules.proofs.SetLaws.{key-most, held-key}
+use Rattle.cba_rules.proofs.RefusalLaws.{key-accepts}
 use Rattle.ledger_rules.specs.Ledger.{Heading, Ledger, fresh, makeRows, makeAnswer, keyOf, headingAt, isName, isKept, ledgerAnswer, ledgerOutput, carryAnswer}
 use Rattle.ledger_rules.specs.Ledger.Source.{given, named}
 use Rattle.ledger_rules.specs.Runs.{Call, answerOn, after, run, accepted, charges, NoCarrying, beforeCarrying, sinceCarrying, lastKept, isSome, ByName, LedgerTheorems}
@@ -139,6 +140,7 @@ ledger-theorems =
       sealing = ledger-decides;
       keeping = keep-decides;
       carrying = carry-decides;
+      makes-where = λ set key. key-accepts set (length key);
       seals-where = seal-accepted;
       keeps-where = keep-accepts;
       carries-where = carry-set;

@@ -11,7 +11,7 @@ use lib.ListN.{length, replicate}
 use Rattle.octets.specs.Numbers.{number, digits}
 use Rattle.answers.specs.Rows.{Decides}
 use Rattle.answers.specs.Calls.{Gave, InTurn, ByList}
-use Rattle.cba_mode.specs.Sets.{isSet, capacity}
+use Rattle.cba_mode.specs.Sets.{isSet, keyBytes, capacity}
 use Rattle.cba_rules.specs.Checks.{setTag}
 use Rattle.cba_rules.specs.Refusals.{SealCall}
 use Rattle.ledger_rules.specs.Ledger.{Ledger, noHeadings, makeRows, makeAnswer, fresh, madeLedger, keyOf, consoleOf, isKept, Source, sealCharge, ledgerRows, ledgerAnswer, nextLedger, ledgerOutput, LedgerCall, keepCharge, keepRows, keepAnswer, keptLedger, KeepCall, carryRows, carryAnswer, withCharge, carriedLedger, CarryCall}
@@ -219,8 +219,9 @@ pub record LedgerTheorems : Type 0 where
       Decides (ledgerRows l N S message out) (ledgerAnswer l N S message out)
   pub keeping : (l : Ledger) (name ad : ℕ) → Decides (keepRows l name ad) (keepAnswer l name ad)
   pub carrying : (l : Ledger) → Decides (carryRows l) (carryAnswer l)
-  -- and each is accepted wherever the documents say: such a sealing; a keeping under one of eight names, of at most 4,096 bytes, that the
-  -- capacity has room for; every carrying
+  -- and each is accepted wherever the documents say: a making with a set and a key of its length; such a sealing; a keeping under one of
+  -- eight names, of at most 4,096 bytes, that the capacity has room for; every carrying
+  pub makes-where : (set : ℕ) (key : List ℕ) → isSet set ≡ true → length key ≡ keyBytes set → makeAnswer set key ≡ 0
   pub seals-where : (l : Ledger) (N : List ℕ) (S : Source) (message out : ℕ) → Sealable l N S message out →
       ledgerAnswer l N S message out ≡ 0
   pub keeps-where : (l : Ledger) (name ad : ℕ) → isSet (l .set) ≡ true → name < 8 → ad ≤ 4096 →

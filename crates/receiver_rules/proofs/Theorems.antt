@@ -5,6 +5,7 @@ use mathlib.Core.List.{[]}
 use lib.ListN.{length}
 use Rattle.answers.specs.Rows.{numbers, isIn, ownNumbers}
 use Rattle.answers.proofs.RowLaws.{decides}
+use Rattle.cba_rules.proofs.RefusalLaws.{key-accepts}
 use Rattle.window_rules.specs.Theorems.{isTooLate}
 use Rattle.receiver_rules.specs.Receiver.{makeRows, makeAnswer}
 use Rattle.receiver_rules.specs.Runs.{run, accepted, ReceiverTheorems}
@@ -17,6 +18,7 @@ receiver-theorems =
     record {
       making = λ set key. decides (makeRows set (length key)) refl;
       opens = receiver-decides;
+      makes-where = λ set key. key-accepts set (length key);
       made = made-fresh;
       unmade = made-blank;
       on-unmade = none-answers;

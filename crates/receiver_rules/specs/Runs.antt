@@ -1,13 +1,14 @@
 -- Lists of openings on one receiver, and the theorems of request F-7.
 -- Assumes nothing.
 use mathlib.Core.Path.{_≡_}
-use mathlib.Core.Bool.{false, cond, _||_}
+use mathlib.Core.Bool.{true, false, cond, _||_}
 use mathlib.Core.List.{List, [], _∷_, _++_}
 use Prim.Native.Nat.{ℕ, _-_}
 use lib.Dec.{eqb}
 use lib.ListN.{length, drop, replicate}
 use Rattle.answers.specs.Rows.{isIn, Decides}
 use Rattle.answers.specs.Calls.{Gave, InTurn, ByList}
+use Rattle.cba_mode.specs.Sets.{isSet, keyBytes}
 use Rattle.cba_mode.specs.Open.{isFalse}
 use Rattle.cba_rules.specs.Checks.{setTag}
 use Rattle.cba_rules.specs.Refusals.{opening, OpenCall}
@@ -99,6 +100,8 @@ pub record ReceiverTheorems : Type 0 where
   pub making : (set : ℕ) (key : List ℕ) → Decides (makeRows set (length key)) (makeAnswer set key)
   pub opens : (v : Receiver) (N A C : List ℕ) (out : ℕ) →
       Decides (receiverRows v N (length A) (length C) out (isFalse (opening (v .set) (keyOf v) N A C))) (receiverAnswer v N A C out)
+  -- a making with a set and a key of its length is accepted
+  pub makes-where : (set : ℕ) (key : List ℕ) → isSet set ≡ true → length key ≡ keyBytes set → makeAnswer set key ≡ 0
   -- a making that is not refused gives a fresh receiver with the set, the key and the prefix that it was given
   pub made : (set : ℕ) (key : List ℕ) (prefix : ℕ) → makeAnswer set key ≡ 0 → FreshFor set key prefix (madeReceiver set key prefix)
   -- a refused one has zeros in every field, and an opening on it answers 1
