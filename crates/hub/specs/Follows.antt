@@ -28,7 +28,8 @@ pub record Follows (h : Hub) (line s : List ℕ) (r : Going) (line′ : List ℕ
   pub goes-on : r .more ≡ true → (r .failed ≡ false) × (isDone (stateOf (r .hub) line′) ≡ false)
   pub more-is : r .failed ≡ false → 0 < length s → r .more ≡ not (isDone (stateOf (r .hub) line′))
 
--- What the whole of the reading comes to: what was read is earlier, which was all said, and then last.
+-- What the whole of the reading comes to: there are strings, earlier, which was all said, and then last, by which the result is so. No
+-- contract can say that they are what was read.
 pub record Reached (r : Going) (line′ : List ℕ) : Type 0 where
   pub sound : Sound (r .hub) line′
   pub earlier : List ℕ
