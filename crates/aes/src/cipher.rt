@@ -2,8 +2,8 @@
 ghost use Rattle.std.specs.Prelude.{◌≡◌, ◌*◌, ◌≤◌, ◌<◌, suc, length};
 ghost use Rattle.octets.specs.Blocks.{block};
 ghost use Rattle.aes_tables.specs.Round.{entry};
-ghost use Rattle.fips197.specs.Schedule.{keyExpansion};
-ghost use Rattle.fips197.specs.Cipher.{fullRound, rounds, cipher, cipherOver, keyRounds};
+ghost use Rattle.fips197.specs.Schedule.{key_expansion};
+ghost use Rattle.fips197.specs.Cipher.{full_round, rounds, cipher, cipher_over, key_rounds};
 ghost use Rattle.aes.specs.Context.{Encrypts};
 ghost use Rattle.aes_schedule.specs.Words.{block_of};
 ghost use Rattle.aes.specs.Tables.{Entries};
@@ -16,7 +16,7 @@ use aes_schedule::{Words, read, words_at, write};
 pub fn full_round(t: &[u8], w: &[u8], n: usize, k: Words) -> Words
     requires entries { Entries entry t.now }
     requires n_in_bounds { 16 * suc n ≤ length w.now }
-    ensures { block_of result ≡ fullRound w.now n (block_of k) }
+    ensures { block_of result ≡ full_round w.now n (block_of k) }
 {
     add_key(w, n, sub_shift_mix(t, k))
 }
@@ -41,7 +41,7 @@ fn full_rounds(t: &[u8], w: &[u8], n: usize, block: [u8; 16]) -> Words
 fn encipher(t: &[u8], w: &[u8], nr: usize, block: [u8; 16]) -> [u8; 16]
     requires entries { Entries entry t.now }
     requires le_nr { (1 ≤ nr) × (16 * suc nr ≤ length w.now) }
-    ensures { result ≡ cipherOver w.now nr block }
+    ensures { result ≡ cipher_over w.now nr block }
 {
     let k = full_rounds(t, w, nr - 1, block);
     write(add_key(w, nr, sub_shift(t, k)))
@@ -64,8 +64,8 @@ pub fn encrypt(key: &[u8], ctx: &Context, block: [u8; 16]) -> [u8; 16]
 // The State of encryption after its first AddRoundKey and n full rounds, for a tracer.
 pub fn state_after(key: &[u8], ctx: &Context, n: usize, block: [u8; 16]) -> [u8; 16]
     requires encrypts { Encrypts key.now ctx.now }
-    requires n_bound { n < keyRounds key.now }
-    ensures { result ≡ rounds (keyExpansion key.now) n block }
+    requires n_bound { n < key_rounds key.now }
+    ensures { result ≡ rounds (key_expansion key.now) n block }
 {
     let c = &ctx[..];
     write(full_rounds(round_table(key, c), round_keys(key, c, KEYS), n, block))
@@ -74,8 +74,8 @@ pub fn state_after(key: &[u8], ctx: &Context, n: usize, block: [u8; 16]) -> [u8;
 // Round key n of the key's schedule, for a tracer.
 pub fn round_key(key: &[u8], ctx: &Context, n: usize) -> [u8; 16]
     requires encrypts { Encrypts key.now ctx.now }
-    requires n_bound { n ≤ keyRounds key.now }
-    ensures { result ≡ block 16 (keyExpansion key.now) n }
+    requires n_bound { n ≤ key_rounds key.now }
+    ensures { result ≡ block 16 (key_expansion key.now) n }
 {
     write(words_at(round_keys(key, &ctx[..], KEYS), 16 * n))
 }

@@ -3,11 +3,11 @@
 // after them. A call that only encrypts stores no table of decryption.
 ghost use Rattle.std.specs.Prelude.{◌≡◌, true, ◌*◌, ◌≤◌, suc, length};
 ghost use Rattle.octets.specs.Strings.{table};
-ghost use Rattle.field.specs.SBox.{invSBox};
-ghost use Rattle.aes_tables.specs.Round.{entry, inverseEntry, forward, inverses};
+ghost use Rattle.field.specs.SBox.{inv_s_box};
+ghost use Rattle.aes_tables.specs.Round.{entry, inverse_entry, forward, inverses};
 ghost use Rattle.fips197.specs.Schedule.{is_key};
-ghost use Rattle.fips197.specs.Cipher.{keyRounds};
-ghost use Rattle.aes.specs.Context.{blankOf, Encrypts, Decrypts, scheduleAt, KeysAt};
+ghost use Rattle.fips197.specs.Cipher.{key_rounds};
+ghost use Rattle.aes.specs.Context.{blank_of, Encrypts, Decrypts, schedule_at, KeysAt};
 ghost use Rattle.aes.specs.Tables.{Entries};
 
 use crate::inverse_keys::inv_mix_key;
@@ -42,13 +42,13 @@ pub fn is_key(key: &[u8]) -> bool
 // constant is stored to the stack at every call of a function that names it.
 
 pub fn blank() -> Context
-    ensures { result ≡ blankOf forward }
+    ensures { result ≡ blank_of forward }
 {
     aes_tables::forward()
 }
 
 pub fn blank_inverse() -> Inverse
-    ensures { result ≡ blankOf inverses }
+    ensures { result ≡ blank_of inverses }
 {
     aes_tables::inverses()
 }
@@ -56,7 +56,7 @@ pub fn blank_inverse() -> Inverse
 // Fills a blank context for a key.
 pub fn fill(key: &[u8], ctx: &mut [u8])
     requires key_value { is_key key.now ≡ true }
-    requires ctx_value { ctx.old ≡ blankOf forward }
+    requires ctx_value { ctx.old ≡ blank_of forward }
     ensures { Encrypts key.now ctx.new }
 {
     expand(key, KEYS, ctx);
@@ -66,7 +66,7 @@ pub fn fill(key: &[u8], ctx: &mut [u8])
 // the round keys between the first and the last.
 pub fn fill_inverse(key: &[u8], ctx: &Context, inv: &mut [u8])
     requires encrypts { Encrypts key.now ctx.now }
-    requires inv_value { inv.old ≡ blankOf inverses }
+    requires inv_value { inv.old ≡ blank_of inverses }
     ensures { Decrypts key.now inv.new }
 {
     let c = &ctx[..];
@@ -95,8 +95,8 @@ pub fn round_table<'a>(key: &[u8], ctx: &'a [u8]) -> &'a [u8]
 // The schedule, from its place on.
 pub fn round_keys<'a>(key: &[u8], ctx: &'a [u8], at: usize) -> &'a [u8]
     requires { KeysAt at key.now ctx.now }
-    ensures result_value { result.now ≡ scheduleAt at key.now }
-    ensures result_len { length result.now ≡ 16 * suc (keyRounds key.now) }
+    ensures result_value { result.now ≡ schedule_at at key.now }
+    ensures result_len { length result.now ≡ 16 * suc (key_rounds key.now) }
 {
     let n = 16 * rounds_of(key) + 16;
     &ctx[at..at + n]
@@ -104,14 +104,14 @@ pub fn round_keys<'a>(key: &[u8], ctx: &'a [u8], at: usize) -> &'a [u8]
 
 pub fn inverse_table<'a>(key: &[u8], inv: &'a [u8]) -> &'a [u8]
     requires { Decrypts key.now inv.now }
-    ensures { Entries inverseEntry result.now }
+    ensures { Entries inverse_entry result.now }
 {
     &inv[..INVERSE_BOX]
 }
 
 pub fn inverse_s_box<'a>(key: &[u8], inv: &'a [u8]) -> &'a [u8]
     requires { Decrypts key.now inv.now }
-    ensures { result.now ≡ table invSBox 256 }
+    ensures { result.now ≡ table inv_s_box 256 }
 {
     &inv[INVERSE_BOX..INVERSE_KEYS]
 }
@@ -119,7 +119,7 @@ pub fn inverse_s_box<'a>(key: &[u8], inv: &'a [u8]) -> &'a [u8]
 // The number of rounds that goes with a key.
 pub fn rounds_of(key: &[u8]) -> usize
     requires { is_key key.now ≡ true }
-    ensures { (result ≡ keyRounds key.now) × (10 ≤ result) × (result ≤ 14) }
+    ensures { (result ≡ key_rounds key.now) × (10 ≤ result) × (result ≤ 14) }
 {
     key.len() / 4 + 6
 }

@@ -1,11 +1,11 @@
 // D: decryption as the equivalent inverse cipher, on words, and the states on its way.
 ghost use Rattle.std.specs.Prelude.{◌≡◌, ◌*◌, ◌≤◌, ◌<◌, suc, length};
 ghost use Rattle.octets.specs.Strings.{table};
-ghost use Rattle.field.specs.SBox.{invSBox};
-ghost use Rattle.aes_tables.specs.Round.{inverseEntry};
-ghost use Rattle.fips197.specs.Steps.{invSubBytes, invShiftRows, invMixColumns};
-ghost use Rattle.fips197.specs.Cipher.{invCipher, keyRounds};
-ghost use Rattle.fips197.specs.Equivalent.{eqFullRound, eqRounds, eqInvCipherOver, keyExpansionEIC, eqState};
+ghost use Rattle.field.specs.SBox.{inv_s_box};
+ghost use Rattle.aes_tables.specs.Round.{inverse_entry};
+ghost use Rattle.fips197.specs.Steps.{inv_sub_bytes, inv_shift_rows, inv_mix_columns};
+ghost use Rattle.fips197.specs.Cipher.{inv_cipher, key_rounds};
+ghost use Rattle.fips197.specs.Equivalent.{eq_full_round, eq_rounds, eq_inv_cipher_over, key_expansion_eic, eq_state};
 ghost use Rattle.aes.specs.Context.{Decrypts};
 ghost use Rattle.aes_schedule.specs.Words.{block_of};
 ghost use Rattle.aes.specs.Tables.{Entries};
@@ -16,8 +16,8 @@ use aes_schedule::{Words, look_up, read, write};
 
 // InvSubBytes, for a tracer.
 fn inv_sub(s: &[u8], k: Words) -> Words
-    requires { s.now ≡ table invSBox 256 }
-    ensures { block_of result ≡ invSubBytes (block_of k) }
+    requires { s.now ≡ table inv_s_box 256 }
+    ensures { block_of result ≡ inv_sub_bytes (block_of k) }
 {
     Words {
         a: look_up(s, k.a, k.a, k.a, k.a),
@@ -29,8 +29,8 @@ fn inv_sub(s: &[u8], k: Words) -> Words
 
 // InvSubBytes, InvShiftRows.
 pub fn inv_sub_shift(s: &[u8], k: Words) -> Words
-    requires { s.now ≡ table invSBox 256 }
-    ensures { block_of result ≡ invShiftRows (invSubBytes (block_of k)) }
+    requires { s.now ≡ table inv_s_box 256 }
+    ensures { block_of result ≡ inv_shift_rows (inv_sub_bytes (block_of k)) }
 {
     Words {
         a: look_up(s, k.a, k.d, k.c, k.b),
@@ -42,8 +42,8 @@ pub fn inv_sub_shift(s: &[u8], k: Words) -> Words
 
 // InvSubBytes, InvShiftRows, InvMixColumns.
 fn inv_sub_shift_mix(t: &[u8], k: Words) -> Words
-    requires { Entries inverseEntry t.now }
-    ensures { block_of result ≡ invMixColumns (invShiftRows (invSubBytes (block_of k))) }
+    requires { Entries inverse_entry t.now }
+    ensures { block_of result ≡ inv_mix_columns (inv_shift_rows (inv_sub_bytes (block_of k))) }
 {
     Words {
         a: mixed(t, k.a, k.d, k.c, k.b),
@@ -55,9 +55,9 @@ fn inv_sub_shift_mix(t: &[u8], k: Words) -> Words
 
 // A full round, with round key n.
 pub fn full_inv_round(t: &[u8], w: &[u8], n: usize, k: Words) -> Words
-    requires entries { Entries inverseEntry t.now }
+    requires entries { Entries inverse_entry t.now }
     requires n_in_bounds { 16 * suc n ≤ length w.now }
-    ensures { block_of result ≡ eqFullRound w.now n (block_of k) }
+    ensures { block_of result ≡ eq_full_round w.now n (block_of k) }
 {
     add_key(w, n, inv_sub_shift_mix(t, k))
 }
@@ -65,9 +65,9 @@ pub fn full_inv_round(t: &[u8], w: &[u8], n: usize, k: Words) -> Words
 // The first AddRoundKey, with round key nr, and n full rounds, with round keys nr - 1, nr - 2, ..;
 // t is the table of decryption and w its schedule.
 fn full_inv_rounds(t: &[u8], w: &[u8], nr: usize, n: usize, block: Words) -> Words
-    requires entries { Entries inverseEntry t.now }
+    requires entries { Entries inverse_entry t.now }
     requires n_le_nr { (n ≤ nr) × (16 * suc nr ≤ length w.now) }
-    ensures { block_of result ≡ eqRounds w.now nr n (block_of block) }
+    ensures { block_of result ≡ eq_rounds w.now nr n (block_of block) }
 {
     let mut k = add_key(w, nr, block);
     let mut i = 0;
@@ -81,10 +81,10 @@ fn full_inv_rounds(t: &[u8], w: &[u8], nr: usize, n: usize, block: Words) -> Wor
 
 // EqInvCipher, with the tables t and s, the schedule w and nr rounds.
 fn decipher(t: &[u8], s: &[u8], w: &[u8], nr: usize, block: Words) -> Words
-    requires entries { Entries inverseEntry t.now }
-    requires s_value { s.now ≡ table invSBox 256 }
+    requires entries { Entries inverse_entry t.now }
+    requires s_value { s.now ≡ table inv_s_box 256 }
     requires le_nr { (1 ≤ nr) × (16 * suc nr ≤ length w.now) }
-    ensures { block_of result ≡ eqInvCipherOver w.now nr (block_of block) }
+    ensures { block_of result ≡ eq_inv_cipher_over w.now nr (block_of block) }
 {
     let k = full_inv_rounds(t, w, nr, nr - 1, block);
     add_key(w, 0, inv_sub_shift(s, k))
@@ -93,7 +93,7 @@ fn decipher(t: &[u8], s: &[u8], w: &[u8], nr: usize, block: Words) -> Words
 // D on words: a caller that has the block as words need not take it apart.
 pub fn decrypt_words(key: &[u8], inv: &Inverse, block: Words) -> Words
     requires { Decrypts key.now inv.now }
-    ensures { block_of result ≡ invCipher key.now (block_of block) }
+    ensures { block_of result ≡ inv_cipher key.now (block_of block) }
 {
     let i = &inv[..];
     decipher(
@@ -108,7 +108,7 @@ pub fn decrypt_words(key: &[u8], inv: &Inverse, block: Words) -> Words
 // D: the block under the key, whose context for decryption is lent.
 pub fn decrypt(key: &[u8], inv: &Inverse, block: [u8; 16]) -> [u8; 16]
     requires { Decrypts key.now inv.now }
-    ensures { result ≡ invCipher key.now block }
+    ensures { result ≡ inv_cipher key.now block }
 {
     write(decrypt_words(key, inv, read(block)))
 }
@@ -116,10 +116,10 @@ pub fn decrypt(key: &[u8], inv: &Inverse, block: [u8; 16]) -> [u8; 16]
 // The State after step k, with the tables t and s, the schedule w and nr rounds: the whole rounds
 // before it, and the steps of its own round.
 fn state_at(t: &[u8], s: &[u8], w: &[u8], nr: usize, k: usize, block: Words) -> Words
-    requires entries { Entries inverseEntry t.now }
-    requires s_value { s.now ≡ table invSBox 256 }
+    requires entries { Entries inverse_entry t.now }
+    requires s_value { s.now ≡ table inv_s_box 256 }
     requires k_bound { (k < 4 * nr) × (16 * suc nr ≤ length w.now) }
-    ensures { block_of result ≡ eqState w.now nr k (block_of block) }
+    ensures { block_of result ≡ eq_state w.now nr k (block_of block) }
 {
     let n = k / 4;
     let j = k % 4;
@@ -142,8 +142,8 @@ fn state_at(t: &[u8], s: &[u8], w: &[u8], nr: usize, k: usize, block: Words) -> 
 // The State of decryption after step k, from 0, for a tracer.
 pub fn inverse_state(key: &[u8], inv: &Inverse, k: usize, block: [u8; 16]) -> [u8; 16]
     requires decrypts { Decrypts key.now inv.now }
-    requires k_bound { k < 4 * keyRounds key.now }
-    ensures { result ≡ eqState (keyExpansionEIC key.now) (keyRounds key.now) k block }
+    requires k_bound { k < 4 * key_rounds key.now }
+    ensures { result ≡ eq_state (key_expansion_eic key.now) (key_rounds key.now) k block }
 {
     let i = &inv[..];
     write(state_at(

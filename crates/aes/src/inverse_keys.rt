@@ -1,10 +1,10 @@
 // The round keys of decryption: InvMixColumns of those of encryption, column by column.
 ghost use Rattle.std.specs.Prelude.{◌≡◌, ◌+◌, ◌*◌, ◌≤◌, suc, length};
 ghost use Rattle.octets.specs.Blocks.{block};
-ghost use Rattle.aes_tables.specs.Round.{entry, inverseEntry};
-ghost use Rattle.fips197.specs.Steps.{invMixColumns};
+ghost use Rattle.aes_tables.specs.Round.{entry, inverse_entry};
+ghost use Rattle.fips197.specs.Steps.{inv_mix_columns};
 ghost use Rattle.aes_schedule.specs.Words.{bytes_of, block_of};
-ghost use Rattle.aes.specs.Tables.{unmixedColumn, subBoxed, onColumn, Entries};
+ghost use Rattle.aes.specs.Tables.{unmixed_column, sub_boxed, on_column, Entries};
 
 use crate::table::mixed;
 use aes_schedule::{Words, boxed, join};
@@ -13,7 +13,7 @@ use aes_schedule::{Words, boxed, join};
 fn subbed(t: &[u8], w: &[u8], at: usize) -> u32
     requires entries { Entries entry t.now }
     requires at_in_bounds { at + 4 ≤ length w.now }
-    ensures { bytes_of result ≡ onColumn subBoxed w.now at }
+    ensures { bytes_of result ≡ on_column sub_boxed w.now at }
 {
     join(
         boxed(t, w[at]),
@@ -27,9 +27,9 @@ fn subbed(t: &[u8], w: &[u8], at: usize) -> u32
 // table t of encryption has. So no table is stored for InvMixColumns alone.
 fn unmixed(t: &[u8], u: &[u8], w: &[u8], at: usize) -> u32
     requires entries { Entries entry t.now }
-    requires entries_2 { Entries inverseEntry u.now }
+    requires entries_2 { Entries inverse_entry u.now }
     requires at_in_bounds { at + 4 ≤ length w.now }
-    ensures { bytes_of result ≡ onColumn unmixedColumn w.now at }
+    ensures { bytes_of result ≡ on_column unmixed_column w.now at }
 {
     let y = subbed(t, w, at);
     mixed(u, y, y, y, y)
@@ -38,9 +38,9 @@ fn unmixed(t: &[u8], u: &[u8], w: &[u8], at: usize) -> u32
 // InvMixColumns of round key n of the schedule w.
 pub fn inv_mix_key(t: &[u8], u: &[u8], w: &[u8], n: usize) -> Words
     requires entries { Entries entry t.now }
-    requires entries_2 { Entries inverseEntry u.now }
+    requires entries_2 { Entries inverse_entry u.now }
     requires n_in_bounds { 16 * suc n ≤ length w.now }
-    ensures { block_of result ≡ invMixColumns (block 16 w.now n) }
+    ensures { block_of result ≡ inv_mix_columns (block 16 w.now n) }
 {
     Words {
         a: unmixed(t, u, w, 16 * n),

@@ -10,7 +10,7 @@ mod pairs;
 mod table;
 
 ghost use Rattle.std.specs.Prelude.{◌≡◌};
-ghost use Rattle.fips197.specs.Cipher.{cipher, invCipher};
+ghost use Rattle.fips197.specs.Cipher.{cipher, inv_cipher};
 ghost use Rattle.aes.specs.Context.{answer, answered};
 
 pub use cipher::{encrypt, round_key, state_after};
@@ -39,7 +39,7 @@ pub extern "C" fn aes_encrypt(key: &[u8], block: &mut [u8; 16]) -> u32
 #[unsafe(no_mangle)]
 pub extern "C" fn aes_decrypt(key: &[u8], block: &mut [u8; 16]) -> u32
     ensures value { result ≡ answer key.now }
-    ensures block_after { block.new ≡ answered invCipher key.now block.old }
+    ensures block_after { block.new ≡ answered inv_cipher key.now block.old }
 {
     if is_key(key) {
         let mut ctx = blank();

@@ -1,11 +1,11 @@
 // Two blocks under way at once: while the round of one waits for its lookups, that of the other goes on.
 ghost use Rattle.std.specs.Prelude.{◌≡◌, ◌*◌, ◌≤◌, suc, length};
 ghost use Rattle.octets.specs.Strings.{table};
-ghost use Rattle.field.specs.SBox.{invSBox};
-ghost use Rattle.aes_tables.specs.Round.{entry, inverseEntry};
-ghost use Rattle.fips197.specs.Steps.{addRoundKey};
-ghost use Rattle.fips197.specs.Cipher.{fullRound, rounds, cipherOver, cipher, invCipher};
-ghost use Rattle.fips197.specs.Equivalent.{eqFullRound, eqRounds, eqInvCipherOver};
+ghost use Rattle.field.specs.SBox.{inv_s_box};
+ghost use Rattle.aes_tables.specs.Round.{entry, inverse_entry};
+ghost use Rattle.fips197.specs.Steps.{add_round_key};
+ghost use Rattle.fips197.specs.Cipher.{full_round, rounds, cipher_over, cipher, inv_cipher};
+ghost use Rattle.fips197.specs.Equivalent.{eq_full_round, eq_rounds, eq_inv_cipher_over};
 ghost use Rattle.aes.specs.Context.{Encrypts, Decrypts};
 ghost use Rattle.aes.specs.Pairs.{Both, Sums};
 ghost use Rattle.aes.specs.Tables.{Entries};
@@ -42,7 +42,7 @@ pub fn xor_pair(p: Pair, q: Pair) -> Pair
 // AddRoundKey, with round key n of the schedule w.
 fn add_keys(w: &[u8], n: usize, p: Pair) -> Pair
     requires { 16 * suc n ≤ length w.now }
-    ensures { Both (addRoundKey w.now n) p result }
+    ensures { Both (add_round_key w.now n) p result }
 {
     let x = p.x;
     let y = p.y;
@@ -56,7 +56,7 @@ fn add_keys(w: &[u8], n: usize, p: Pair) -> Pair
 fn both_rounds(t: &[u8], w: &[u8], n: usize, p: Pair) -> Pair
     requires entries { Entries entry t.now }
     requires n_in_bounds { 16 * suc n ≤ length w.now }
-    ensures { Both (fullRound w.now n) p result }
+    ensures { Both (full_round w.now n) p result }
 {
     let x = p.x;
     let y = p.y;
@@ -86,7 +86,7 @@ fn pair_rounds(t: &[u8], w: &[u8], n: usize, p: Pair) -> Pair
 fn encipher_pair(t: &[u8], w: &[u8], nr: usize, p: Pair) -> Pair
     requires entries { Entries entry t.now }
     requires le_nr { (1 ≤ nr) × (16 * suc nr ≤ length w.now) }
-    ensures { Both (cipherOver w.now nr) p result }
+    ensures { Both (cipher_over w.now nr) p result }
 {
     let k = pair_rounds(t, w, nr - 1, p);
     let x = k.x;
@@ -114,9 +114,9 @@ pub fn encrypt_pair(key: &[u8], ctx: &Context, p: Pair) -> Pair
 
 // A full round of decryption, with round key n.
 fn both_inv_rounds(t: &[u8], w: &[u8], n: usize, p: Pair) -> Pair
-    requires entries { Entries inverseEntry t.now }
+    requires entries { Entries inverse_entry t.now }
     requires n_in_bounds { 16 * suc n ≤ length w.now }
-    ensures { Both (eqFullRound w.now n) p result }
+    ensures { Both (eq_full_round w.now n) p result }
 {
     let x = p.x;
     let y = p.y;
@@ -129,9 +129,9 @@ fn both_inv_rounds(t: &[u8], w: &[u8], n: usize, p: Pair) -> Pair
 // The first AddRoundKey, with round key nr, and n full rounds, with round keys nr - 1, nr - 2, ..;
 // t is the table of decryption and w its schedule.
 fn pair_inv_rounds(t: &[u8], w: &[u8], nr: usize, n: usize, p: Pair) -> Pair
-    requires entries { Entries inverseEntry t.now }
+    requires entries { Entries inverse_entry t.now }
     requires n_le_nr { (n ≤ nr) × (16 * suc nr ≤ length w.now) }
-    ensures { Both (eqRounds w.now nr n) p result }
+    ensures { Both (eq_rounds w.now nr n) p result }
 {
     let mut k = add_keys(w, nr, p);
     let mut i = 0;
@@ -145,10 +145,10 @@ fn pair_inv_rounds(t: &[u8], w: &[u8], nr: usize, n: usize, p: Pair) -> Pair
 
 // EqInvCipher, with the tables t and s, the schedule w and nr rounds.
 fn decipher_pair(t: &[u8], s: &[u8], w: &[u8], nr: usize, p: Pair) -> Pair
-    requires entries { Entries inverseEntry t.now }
-    requires s_value { s.now ≡ table invSBox 256 }
+    requires entries { Entries inverse_entry t.now }
+    requires s_value { s.now ≡ table inv_s_box 256 }
     requires le_nr { (1 ≤ nr) × (16 * suc nr ≤ length w.now) }
-    ensures { Both (eqInvCipherOver w.now nr) p result }
+    ensures { Both (eq_inv_cipher_over w.now nr) p result }
 {
     let k = pair_inv_rounds(t, w, nr, nr - 1, p);
     let x = k.x;
@@ -163,7 +163,7 @@ fn decipher_pair(t: &[u8], s: &[u8], w: &[u8], nr: usize, p: Pair) -> Pair
 // D of two blocks under the key, whose context for decryption is lent.
 pub fn decrypt_pair(key: &[u8], inv: &Inverse, p: Pair) -> Pair
     requires { Decrypts key.now inv.now }
-    ensures { Both (invCipher key.now) p result }
+    ensures { Both (inv_cipher key.now) p result }
 {
     let i = &inv[..];
     decipher_pair(

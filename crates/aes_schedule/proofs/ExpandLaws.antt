@@ -12,12 +12,12 @@ use lib.Seq.{get_or-take, take_at, drop_at, drop-drop, drop-append-add, length-t
 use Rattle.octets.specs.Strings.{over}
 use Rattle.octets.specs.Xor.{xors}
 use Rattle.octets.specs.Blocks.{block}
-use Rattle.octets.proofs.Parts.{drop-put, put-more}
-use Rattle.octets.proofs.Blocks.{block-append}
-use Rattle.fips197.specs.Schedule.{is_key, power, rcon, temp, nextWord, expanded, keyExpansion}
-use Rattle.fips197.proofs.ScheduleLaws.{power-byte, key-words, temp-other}
+use Rattle.octets.proofs.Parts.{drop_put, put_more}
+use Rattle.octets.proofs.Blocks.{block_append}
+use Rattle.fips197.specs.Schedule.{is_key, power, rcon, temp, next_word, expanded, key_expansion}
+use Rattle.fips197.proofs.ScheduleLaws.{power_byte, key-words, temp_other}
 use Rattle.aes_schedule.specs.declared.schedule.Place.{Place}
-use Rattle.aes_schedule.specs.Words.{bytes_of, wordAt}
+use Rattle.aes_schedule.specs.Words.{bytes_of, word_at}
 use Rattle.aes_schedule.specs.Boxes.{Boxes}
 use Rattle.aes_schedule.specs.Place.{passed, Paired}
 use Rattle.aes_schedule.proofs.WordLaws.{byte_word, word_bytes}
@@ -25,7 +25,7 @@ use Rattle.aes_schedule.proofs.WordLaws.{byte_word, word_bytes}
 -- Rcon as a word is a power of x
 pub rcon-word : (j p : ℕ) → p ≡ power (j - 1) → bytes_of p ≡ rcon j
 unfolding rcon
-rcon-word j p e = rw e (byte_word (power (j - 1)) (power-byte (j - 1)))
+rcon-word j p e = rw e (byte_word (power (j - 1)) (power_byte (j - 1)))
 
 -- ---- the place of a word, nk words q + 1 times and k more
 
@@ -41,18 +41,18 @@ module _ (nk q k : ℕ) (h : k < nk) where
 
 -- ---- the round table in front of what is written
 
-pub boxes-append : {t : List ℕ} → Boxes t → (z : List ℕ) → Boxes (t ++ z)
-boxes-append {t} b z =
+pub boxes_append : {t : List ℕ} → Boxes t → (z : List ℕ) → Boxes (t ++ z)
+boxes_append {t} b z =
     record {
       long = omega (arith, length-append t z);
-      box-is = λ v h. get_or-append t z 0 (8 * v + 1) (omega arith) ∙ b.box-is v h;
+      box_is = λ v h. get_or-append t z 0 (8 * v + 1) (omega arith) ∙ b.box_is v h;
     }
 
 boxes-take : {t : List ℕ} → Boxes t → (n : ℕ) → 2048 ≤ n → Boxes (take n t)
 boxes-take {t} b n h =
     record {
       long = simp length-take (omega arith);
-      box-is = λ v l. get_or-take n t (8 * v + 1) 0 (omega arith) ∙ b.box-is v l;
+      box_is = λ v l. get_or-take n t (8 * v + 1) 0 (omega arith) ∙ b.box_is v l;
     }
 
 -- ---- the loop that writes the schedule
@@ -74,7 +74,7 @@ pub record Expanding (key d : List ℕ) (at nk : ℕ) (w : List ℕ) (x m : ℕ)
 pub record Turning (key d : List ℕ) (at nk : ℕ) (w : List ℕ) (x : ℕ) (p : Place) (m : ℕ) : Type 0 where
   pub words : Expanding key d at nk w x m
   pub place : Paired nk p
-  pub so-many : m ≡ passed nk p
+  pub so_many : m ≡ passed nk p
   pub pairs : m % 2 ≡ 0
 
 -- w after its part from n on was lent and came back as last
@@ -87,18 +87,18 @@ module _ (key e last : List ℕ) (at : ℕ) (h : is_key key ≡ true) (r : at + 
   front = length-take-le at e (omega arith)
 
   begun : lent e at last ≡ over (take at e ++ key) e
-  begun = let k = key-words key h in put-more e (take at e) e at key last (rw front (sym (take-append-drop at e))) front (omega arith) p
+  begun = let k = key-words key h in put_more e (take at e) e at key last (rw front (sym (take-append-drop at e))) front (omega arith) p
 
   -- a string that covers the key comes to stand in e as if the key had not been written
   over-begun : (s : List ℕ) → length key ≤ length s → over (take at (lent e at last) ++ s) (lent e at last) ≡ over (take at e ++ s) e
   over-begun s l =
       rw (take_at (take at e) (last ++ drop (length e - at) (drop at e)) at front, begun)
-      (ap (λ (z : List ℕ). (take at e ++ s) ++ z) (drop-put (take at e ++ key) e (length (take at e ++ s)) (simp length-append (omega arith))))
+      (ap (λ (z : List ℕ). (take at e ++ s) ++ z) (drop_put (take at e ++ key) e (length (take at e ++ s)) (simp length-append (omega arith))))
 
-  pub expand-none : (x : ℕ) → Boxes e → 2048 ≤ at → length (lent e at last) ≡ length e → bytes_of x ≡ wordAt key (4 * (length key / 4 - 1)) →
+  pub expand_none : (x : ℕ) → Boxes e → 2048 ≤ at → length (lent e at last) ≡ length e → bytes_of x ≡ word_at key (4 * (length key / 4 - 1)) →
       Turning key (lent e at last) at (length key / 4) (lent e at last) x (record { k = 0; q = 0 }) 0
   unfolding expanded
-  expand-none x b t l w =
+  expand_none x b t l w =
       let k = key-words key h in
       let words : Expanding key (lent e at last) at (length key / 4) (lent e at last) x 0 = record {
         least = k.least;
@@ -107,7 +107,7 @@ module _ (key e last : List ℕ) (at : ℕ) (h : is_key key ≡ true) (r : at + 
         room = omega arith;
         within = omega arith;
         long = refl;
-        boxes = boxes-append (boxes-take b at t) _;
+        boxes = boxes_append (boxes-take b at t) _;
         size = k.whole ∙ omega arith;
         so_far = begun ∙ sym (over-begun key (omega arith));
         last = rw add-zero (w ∙ word_bytes key (4 * (length key / 4 - 1)) (omega arith));
@@ -115,15 +115,15 @@ module _ (key e last : List ℕ) (at : ℕ) (h : is_key key ≡ true) (r : at + 
       record {
         words = words;
         place = record { most = k.most; even = k.even; pair = refl; inside = omega arith };
-        so-many = omega arith;
+        so_many = omega arith;
         pairs = refl;
       }
 
   -- all words have been written
-  pub expand-all : {w : List ℕ} {x m : ℕ} → Expanding key (lent e at last) at (length key / 4) w x m → 3 * (length key / 4) + 28 ≤ m →
-      w ≡ take at e ++ over (keyExpansion key) (drop at e)
-  unfolding keyExpansion
-  expand-all {w} {x} {m} v g =
+  pub expand_all : {w : List ℕ} {x m : ℕ} → Expanding key (lent e at last) at (length key / 4) w x m → 3 * (length key / 4) + 28 ≤ m →
+      w ≡ take at e ++ over (key_expansion key) (drop at e)
+  unfolding key_expansion
+  expand_all {w} {x} {m} v g =
       let k = key-words key h in
       let s = expanded (length key / 4) key m in
       let n : m ≡ 4 * (length key / 4 + 6 + 1) - length key / 4 = omega arith in
@@ -136,27 +136,27 @@ module _ {key d : List ℕ} {at nk : ℕ} {w : List ℕ} {x m : ℕ} (v : Expand
   ahead = length-take-le at d (omega arith)
 
   -- word m, as it stands
-  word-m : wordAt w (at + 4 * m) ≡ block 4 (expanded nk key m) m
-  word-m =
+  word_m : word_at w (at + 4 * m) ≡ block 4 (expanded nk key m) m
+  word_m =
       let p = take at d in
       let s = expanded nk key m in
       let z = drop (length (p ++ s)) d in
       word_bytes w (at + 4 * m) (omega arith)
       ∙ ap (take 4) (ap₂ drop (ap (λ (k : ℕ). k + 4 * m) (sym ahead)) (v.so_far ∙ append_assoc p s z) ∙ drop-append-add p (s ++ z) (4 * m))
-      ∙ block-append 4 s z m (omega arith)
+      ∙ block_append 4 s z m (omega arith)
 
   -- one word more has been written, where the words end
-  pub expand-turn : (next : ℕ) (t last : List ℕ) → m < 3 * nk + 28 →
-      bytes_of next ≡ xors (wordAt w (at + 4 * m)) (temp nk (nk + m) (bytes_of x)) → t ≡ bytes_of next →
+  pub expand_turn : (next : ℕ) (t last : List ℕ) → m < 3 * nk + 28 →
+      bytes_of next ≡ xors (word_at w (at + 4 * m)) (temp nk (nk + m) (bytes_of x)) → t ≡ bytes_of next →
       let n = at + 4 * (nk + m) in
       last ≡ over t (take (length w - n) (drop n w)) → length (lent w n last) ≡ length w → Expanding key d at nk (lent w n last) next (m + 1)
   unfolding expanded
-  expand-turn next t last h e et el ln =
+  expand_turn next t last h e et el ln =
       let p = take at d in
       let s = expanded nk key m in
       let b = bytes_of next in
-      let n : b ≡ nextWord nk (nk + m) s =
-      e ∙ ap₂ xors (word-m ∙ ap (block 4 s) {x = m} {y = nk + m - nk} (omega arith)) (ap (temp nk (nk + m)) v.last) in
+      let n : b ≡ next_word nk (nk + m) s =
+      e ∙ ap₂ xors (word_m ∙ ap (block 4 s) {x = m} {y = nk + m - nk} (omega arith)) (ap (temp nk (nk + m)) v.last) in
       record {
         least = v.least;
         most = v.most;
@@ -164,11 +164,11 @@ module _ {key d : List ℕ} {at nk : ℕ} {w : List ℕ} {x m : ℕ} (v : Expand
         room = v.room;
         within = omega arith;
         long = ln ∙ v.long;
-        boxes = boxes-append (boxes-take v.boxes (at + 4 * (nk + m)) (omega arith)) _;
+        boxes = boxes_append (boxes-take v.boxes (at + 4 * (nk + m)) (omega arith)) _;
         size = rw (add-one m, ← n) (length-append s b ∙ omega arith);
         so_far =
             rw (add-one m, ← n)
-            (put-more d (p ++ s) w (at + 4 * (nk + m)) b last v.so_far (length-append p s ∙ omega (arith, ahead)) (omega arith) (rw et at el)
+            (put_more d (p ++ s) w (at + 4 * (nk + m)) b last v.so_far (length-append p s ∙ omega (arith, ahead)) (omega arith) (rw et at el)
             ∙ ap (λ (z : List ℕ). over z d) (append_assoc p s b));
         last = rw (add-one m, ← n) (sym (ap (take 4) (drop_at s b (4 * (nk + suc m - 1)) (v.size ∙ omega arith))));
       }
@@ -178,8 +178,8 @@ module _ {key d : List ℕ} {at nk : ℕ} {w : List ℕ} {x : ℕ} {p : Place} {
   pub few : m < 3 * nk + 28 → p.q < 10
   few h = lt_of_mul-lt-mul_left nk (omega arith)
 
-  pub room-for-two : m < 3 * nk + 28 → m + 1 < 3 * nk + 28
-  room-for-two h = let l : m / 2 < 3 * (nk / 2) + 14 = omega arith in omega arith
+  pub room_for_two : m < 3 * nk + 28 → m + 1 < 3 * nk + 28
+  room_for_two h = let l : m / 2 < 3 * (nk / 2) + 14 = omega arith in omega arith
 
   pub fits-two : m < 3 * nk + 28 → m + 2 < 54
   fits-two h = omega arith
@@ -189,9 +189,9 @@ module _ {key d : List ℕ} {at nk : ℕ} {w : List ℕ} {x : ℕ} {p : Place} {
   second t =
       let e : nk + (m + 1) ≡ nk + (nk * p.q + (p.k + 1)) = omega arith in
       let r : (nk + (m + 1)) % nk ≡ p.k + 1 = rw e (remainder_is nk p.q (p.k + 1) (omega arith)) in
-      temp-other nk (nk + (m + 1)) t (λ h. omega arith) (λ h. omega arith)
+      temp_other nk (nk + (m + 1)) t (λ h. omega arith) (λ h. omega arith)
 
   -- two words more have been written
   pub turned : {w' : List ℕ} {x' : ℕ} {p' : Place} → Expanding key d at nk w' x' (m + 1 + 1) → Paired nk p' → passed nk p' ≡ passed nk p + 2 →
       Turning key d at nk w' x' p' (m + 2)
-  turned e a n = let s : m + 2 ≡ m + 1 + 1 = omega arith in record { words = rw s e; place = a; so-many = omega arith; pairs = omega arith }
+  turned e a n = let s : m + 2 ≡ m + 1 + 1 = omega arith in record { words = rw s e; place = a; so_many = omega arith; pairs = omega arith }

@@ -10,10 +10,10 @@ use lib.ListN.{length, get_or, take, drop, length-drop}
 use lib.Seq.{get_or-drop, drop-drop, take-add}
 use Rattle.octets.specs.Strings.{table}
 use Rattle.octets.specs.Xor.{xors}
-use Rattle.octets.proofs.Strings.{getD-table, table-getD, table-take}
+use Rattle.octets.proofs.Strings.{get_or-table, table-get_or, table-take}
 use Rattle.fips197.specs.State.{at}
 use Rattle.aes_schedule.specs.declared.words.Words.{Words}
-use Rattle.aes_schedule.specs.Words.{bytes_of, block_of, wordAt, lookedUp}
+use Rattle.aes_schedule.specs.Words.{bytes_of, block_of, word_at, looked_up}
 
 pub four : {a b c d a' b' c' d' : ℕ} → a ≡ a' → b ≡ b' → c ≡ c' → d ≡ d' → a ∷ b ∷ c ∷ d ∷ [] ≡ a' ∷ b' ∷ c' ∷ d' ∷ []
 four p q u v = ap₂ ◌∷◌ p (ap₂ ◌∷◌ q (ap₂ ◌∷◌ u (ap (λ (x : ℕ). x ∷ []) v)))
@@ -50,7 +50,7 @@ byte_word x h = four (omega arith) (omega arith) (omega arith) (omega arith)
 
 -- ---- a word of a string, and the four of a block
 
-pub word_bytes : (s : List ℕ) (at : ℕ) → at + 4 ≤ length s → wordAt s at ≡ take 4 (drop at s)
+pub word_bytes : (s : List ℕ) (at : ℕ) → at + 4 ≤ length s → word_at s at ≡ take 4 (drop at s)
 unfolding table
 word_bytes s at h =
     let from = get_or-drop at s in
@@ -62,10 +62,10 @@ pub read-bytes : (s p q u v : List ℕ) → length s ≡ 16 →
     u ≡ get_or s 8 0 ∷ get_or s 9 0 ∷ get_or s 10 0 ∷ get_or s 11 0 ∷ [] → v ≡ get_or s 12 0 ∷ get_or s 13 0 ∷ get_or s 14 0 ∷ get_or s 15 0 ∷ [] →
     p ++ (q ++ (u ++ v)) ≡ s
 unfolding table
-read-bytes s p q u v l ep eq eu ev = rw (ep, eq, eu, ev) (ap (table (λ k. get_or s k 0)) (sym l) ∙ table-getD s)
+read-bytes s p q u v l ep eq eu ev = rw (ep, eq, eu, ev) (ap (table (λ k. get_or s k 0)) (sym l) ∙ table-get_or s)
 
 pub block_words : (s : List ℕ) (at : ℕ) → at + 16 ≤ length s → (p q u v : List ℕ) →
-    p ≡ wordAt s at → q ≡ wordAt s (at + 4) → u ≡ wordAt s (at + 8) → v ≡ wordAt s (at + 12) → p ++ (q ++ (u ++ v)) ≡ take 16 (drop at s)
+    p ≡ word_at s at → q ≡ word_at s (at + 4) → u ≡ word_at s (at + 8) → v ≡ word_at s (at + 12) → p ++ (q ++ (u ++ v)) ≡ take 16 (drop at s)
 block_words s at h p q u v ep eq eu ev =
     ap₂ ◌++◌ (ep ∙ part at at refl (omega arith))
     (ap₂ ◌++◌ (eq ∙ part (at + 4) (at + 4) refl (omega arith))
@@ -78,17 +78,17 @@ block_words s at h p q u v ep eq eu ev =
     (ap (take 8) (drop-drop 4 (at + 4) s) ∙ take-add 4 4 (drop (at + 4 + 4) s)
     ∙ ap (λ (x : List ℕ). take 4 (drop (at + 4 + 4) s) ++ x) (ap (take 4) (drop-drop 4 (at + 4 + 4) s)))))
   where
-    part : (j m : ℕ) → j ≡ m → j + 4 ≤ at + 16 → wordAt s j ≡ take 4 (drop m s)
+    part : (j m : ℕ) → j ≡ m → j + 4 ≤ at + 16 → word_at s j ≡ take 4 (drop m s)
     part j m e l = word_bytes s j (omega arith) ∙ ap (λ (x : ℕ). take 4 (drop x s)) e
 
-pub xor-words : (j k : Words) →
+pub xor_words : (j k : Words) →
     bytes_of (bit_xor j.a k.a) ++ (bytes_of (bit_xor j.b k.b) ++ (bytes_of (bit_xor j.c k.c) ++ bytes_of (bit_xor j.d k.d))) ≡ xors (block_of j) (block_of k)
 unfolding xors
-xor-words j k = ap₂ ◌++◌ (xor_bytes j.a k.a) (ap₂ ◌++◌ (xor_bytes j.b k.b) (ap₂ ◌++◌ (xor_bytes j.c k.c) (xor_bytes j.d k.d)))
+xor_words j k = ap₂ ◌++◌ (xor_bytes j.a k.a) (ap₂ ◌++◌ (xor_bytes j.b k.b) (ap₂ ◌++◌ (xor_bytes j.c k.c) (xor_bytes j.d k.d)))
 
 -- the entries of a table of values
-pub looked-up : (f : ℕ → ℕ) (t : List ℕ) → t ≡ table f 256 → (p q u v : ℕ) → p < 256 → q < 256 → u < 256 → v < 256 → lookedUp t p q u v ≡ f p ∷ f q ∷ f u ∷ f v ∷ []
+pub looked-up : (f : ℕ → ℕ) (t : List ℕ) → t ≡ table f 256 → (p q u v : ℕ) → p < 256 → q < 256 → u < 256 → v < 256 → looked_up t p q u v ≡ f p ∷ f q ∷ f u ∷ f v ∷ []
 looked-up f t e p q u v hp hq hu hv = four (at p hp) (at q hq) (at u hu) (at v hv)
   where
     at : (x : ℕ) → x < 256 → get_or t x 0 ≡ f x
-    at x h = ap (λ (s : List ℕ). get_or s x 0) e ∙ getD-table f 256 x h
+    at x h = ap (λ (s : List ℕ). get_or s x 0) e ∙ get_or-table f 256 x h

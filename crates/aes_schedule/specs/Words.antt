@@ -11,9 +11,9 @@ abbrev pub block_of : Words → List ℕ
 block_of k = bytes_of k.a ++ (bytes_of k.b ++ (bytes_of k.c ++ bytes_of k.d))
 
 -- the four bytes of a string from a place on
-abbrev pub wordAt : List ℕ → ℕ → List ℕ
-wordAt s at = get_or s at 0 ∷ get_or s (at + 1) 0 ∷ get_or s (at + 2) 0 ∷ get_or s (at + 3) 0 ∷ []
+abbrev pub word_at : List ℕ → ℕ → List ℕ
+word_at s at = get_or s at 0 ∷ get_or s (at + 1) 0 ∷ get_or s (at + 2) 0 ∷ get_or s (at + 3) 0 ∷ []
 
 -- the entries of four bytes in a table
-abbrev pub lookedUp : List ℕ → ℕ → ℕ → ℕ → ℕ → List ℕ
-lookedUp t p q u v = get_or t p 0 ∷ get_or t q 0 ∷ get_or t u 0 ∷ get_or t v 0 ∷ []
+abbrev pub looked_up : List ℕ → ℕ → ℕ → ℕ → ℕ → List ℕ
+looked_up t p q u v = get_or t p 0 ∷ get_or t q 0 ∷ get_or t u 0 ∷ get_or t v 0 ∷ []

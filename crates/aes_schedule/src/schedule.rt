@@ -2,11 +2,11 @@
 ghost use Rattle.std.specs.Prelude.{◌≡◌, true, ◌++◌, ◌+◌, ◌*◌, ◌≤◌, ◌<◌, length, take, drop};
 ghost use Rattle.octets.specs.Strings.{over};
 ghost use Rattle.octets.specs.Xor.{xors};
-ghost use Rattle.field.specs.SBox.{sBox};
-ghost use Rattle.fips197.specs.Schedule.{is_key, subWord, rotWord, power, temp, keyExpansion};
+ghost use Rattle.field.specs.SBox.{s_box};
+ghost use Rattle.fips197.specs.Schedule.{is_key, sub_word, rot_word, power, temp, key_expansion};
 ghost use Rattle.aes_schedule.specs.Boxes.{Boxes};
 ghost use Rattle.aes_schedule.specs.Place.{passed, Paired};
-ghost use Rattle.aes_schedule.specs.Words.{bytes_of, wordAt};
+ghost use Rattle.aes_schedule.specs.Words.{bytes_of, word_at};
 
 use crate::words::{first, fourth, join, second, split, third, word_at};
 
@@ -29,7 +29,7 @@ fn power_of(j: usize) -> u8
 }
 
 fn rot_word(x: u32) -> u32
-    ensures { bytes_of result ≡ rotWord (bytes_of x) }
+    ensures { bytes_of result ≡ rot_word (bytes_of x) }
 {
     x / 256 + x % 256 * 16777216
 }
@@ -37,14 +37,14 @@ fn rot_word(x: u32) -> u32
 // The S-box of a byte: the second byte of its entry, of eight bytes, in the round table.
 pub fn boxed(t: &[u8], x: u8) -> u8
     requires { Boxes t.now }
-    ensures { result ≡ sBox x }
+    ensures { result ≡ s_box x }
 {
     t[8 * x as usize + 1]
 }
 
 fn sub_word(t: &[u8], x: u32) -> u32
     requires { Boxes t.now }
-    ensures { bytes_of result ≡ subWord (bytes_of x) }
+    ensures { bytes_of result ≡ sub_word (bytes_of x) }
 {
     join(
         boxed(t, first(x)),
@@ -79,7 +79,7 @@ fn next_word(t: &[u8], at: usize, nk: usize, p: Place, m: usize, x: u32) -> u32
     requires k_lt_nk { (p.k < nk) × (p.q < 10) }
     requires m_value { m ≡ passed nk p }
     requires m_in_bounds { at + 4 * m + 4 ≤ length t.now }
-    ensures { bytes_of result ≡ xors (wordAt t.now (at + 4 * m)) (temp nk (nk + m) (bytes_of x)) }
+    ensures { bytes_of result ≡ xors (word_at t.now (at + 4 * m)) (temp nk (nk + m) (bytes_of x)) }
 {
     word_at(t, at + 4 * m) ^ step_word(t, nk, p, x)
 }
@@ -104,7 +104,7 @@ pub fn expand(key: &[u8], at: usize, ctx: &mut [u8])
     requires boxes { Boxes ctx.old }
     requires le_at { 2048 ≤ at }
     requires at_in_bounds { at + 240 ≤ length ctx.old }
-    ensures { ctx.new ≡ take at ctx.old ++ over (keyExpansion key.now) (drop at ctx.old) }
+    ensures { ctx.new ≡ take at ctx.old ++ over (key_expansion key.now) (drop at ctx.old) }
 {
     let nk = key.len() / 4;
     octets::put(&mut ctx[at..], key);

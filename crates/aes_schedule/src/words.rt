@@ -1,7 +1,7 @@
 // A State as four little-endian words, one for each column.
 ghost use Rattle.std.specs.Prelude.{◌≡◌, [], ◌∷◌, ◌+◌, ◌/◌, ◌%◌, ◌≤◌, length, take, drop};
 ghost use Rattle.octets.specs.Xor.{xors};
-ghost use Rattle.aes_schedule.specs.Words.{bytes_of, block_of, wordAt, lookedUp};
+ghost use Rattle.aes_schedule.specs.Words.{bytes_of, block_of, word_at, looked_up};
 
 #[derive(Drop)]
 pub struct Words {
@@ -21,7 +21,7 @@ pub fn join(a: u8, b: u8, c: u8, d: u8) -> u32
 // The word at a place of a string.
 pub fn word_at(s: &[u8], at: usize) -> u32
     requires { at + 4 ≤ length s.now }
-    ensures { bytes_of result ≡ wordAt s.now at }
+    ensures { bytes_of result ≡ word_at s.now at }
 {
     join(s[at], s[at + 1], s[at + 2], s[at + 3])
 }
@@ -55,7 +55,7 @@ pub fn fourth(x: u32) -> u8
 // The bytes of four words in turn, each replaced by its entry in a table.
 pub fn look_up(t: &[u8], a: u32, b: u32, c: u32, d: u32) -> u32
     requires { length t.now ≡ 256 }
-    ensures { bytes_of result ≡ lookedUp t.now (a % 256) (b / 256 % 256) (c / 65536 % 256) (d / 16777216 % 256) }
+    ensures { bytes_of result ≡ looked_up t.now (a % 256) (b / 256 % 256) (c / 65536 % 256) (d / 16777216 % 256) }
 {
     let p = t[first(a) as usize];
     let q = t[second(b) as usize];

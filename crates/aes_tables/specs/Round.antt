@@ -3,7 +3,7 @@
 use Rattle.std.specs.Prelude.{List, [], ◌∷◌, ◌++◌, ℕ, zero, suc}
 use Rattle.octets.specs.Strings.{table}
 use Rattle.field.specs.Field.{mul}
-use Rattle.field.specs.SBox.{sBox, invSBox}
+use Rattle.field.specs.SBox.{s_box, inv_s_box}
 
 -- a byte times each of p, q, u, v, and that once more: from byte 3, 2 and 1 on, the next four are the first four turned by one, two and
 -- three rows
@@ -12,11 +12,11 @@ multiples p q u v b = mul p b ∷ mul q b ∷ mul u b ∷ mul v b ∷ mul p b �
 
 -- S(v) times the first column of MixColumns' matrix
 unfoldable pub entry : ℕ → List ℕ
-entry v = multiples 2 1 1 3 (sBox v)
+entry v = multiples 2 1 1 3 (s_box v)
 
 -- the inverse S-box's byte of v times the first column of InvMixColumns' matrix
-unfoldable pub inverseEntry : ℕ → List ℕ
-inverseEntry v = multiples 0x0e 0x09 0x0d 0x0b (invSBox v)
+unfoldable pub inverse_entry : ℕ → List ℕ
+inverse_entry v = multiples 0x0e 0x09 0x0d 0x0b (inv_s_box v)
 
 -- the n entries from that of v on, one after the other
 unfoldable pub entries : (ℕ → List ℕ) → ℕ → ℕ → List ℕ
@@ -29,4 +29,4 @@ forward = entries entry 0 256
 
 -- the round table of decryption, and the inverse S-box for its last round
 abbrev pub inverses : List ℕ
-inverses = entries inverseEntry 0 256 ++ table invSBox 256
+inverses = entries inverse_entry 0 256 ++ table inv_s_box 256

@@ -10,7 +10,7 @@
 // AES of its own kind, with the S-box computed from the field, and that one against openssl under
 // the same keys.
 ghost use Rattle.std.specs.Prelude.{◌≤◌, ◌<◌};
-ghost use Rattle.fips197.specs.Cipher.{keyRounds};
+ghost use Rattle.fips197.specs.Cipher.{key_rounds};
 ghost use Rattle.aes.specs.Context.{Encrypts};
 
 use libc::STDOUT_FILENO;
@@ -37,7 +37,7 @@ fn print_heading(name: &[u8], s: &[u8]) {
 // A line of appendix A: a round key's number and its words.
 fn print_round_key(key: &[u8], ctx: &aes::Context, n: usize)
     requires encrypts { Encrypts key.now ctx.now }
-    requires n_bound { n ≤ keyRounds key.now }
+    requires n_bound { n ≤ key_rounds key.now }
 {
     let k = aes::round_key(key, ctx, n);
     io::print_decimal(STDOUT_FILENO, n as u64);

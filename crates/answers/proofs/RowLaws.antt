@@ -6,7 +6,7 @@ use mathlib.Core.List.{List, [], ◌∷◌, ◌++◌}
 use Prim.Native.Nat.{ℕ}
 use borrow.Author.Tests.{eq-eqb, ne_eqb, eqb-true, eqb-false}
 use lib.Dec.{T, eqb}
-use Rattle.answers.specs.Rows.{Row, answer, first_of, Passes, numbers, isIn, ownNumbers, Decides}
+use Rattle.answers.specs.Rows.{Row, answer, first_of, Passes, numbers, is_in, own_numbers, Decides}
 
 -- ---- Booleans
 
@@ -31,34 +31,34 @@ or_right false y h = h
 
 -- ---- numbers of their own
 
-module _ (x : Row) (rows : List Row) (h : ownNumbers (numbers (x ∷ rows)) ≡ true) where
-  own-rest : ownNumbers (numbers rows) ≡ true
-  unfolding ownNumbers numbers
-  own-rest = (both (not (isIn x.number (0 ∷ numbers rows))) (ownNumbers (numbers rows)) h).1
+module _ (x : Row) (rows : List Row) (h : own_numbers (numbers (x ∷ rows)) ≡ true) where
+  own-rest : own_numbers (numbers rows) ≡ true
+  unfolding own_numbers numbers
+  own-rest = (both (not (is_in x.number (0 ∷ numbers rows))) (own_numbers (numbers rows)) h).1
 
   -- the first row's number is neither 0 nor one of the others
-  own_first : (m : ℕ) → isIn m (0 ∷ numbers rows) ≡ true → x.number ≡ m → ⊥
-  unfolding ownNumbers numbers
+  own_first : (m : ℕ) → is_in m (0 ∷ numbers rows) ≡ true → x.number ≡ m → ⊥
+  unfolding own_numbers numbers
   own_first m i e =
-      true-false (ap (λ (n : ℕ). isIn n (0 ∷ numbers rows)) e ∙ i)
-      (not-true (isIn x.number (0 ∷ numbers rows)) (both (not (isIn x.number (0 ∷ numbers rows))) (ownNumbers (numbers rows)) h).0)
+      true-false (ap (λ (n : ℕ). is_in n (0 ∷ numbers rows)) e ∙ i)
+      (not-true (is_in x.number (0 ∷ numbers rows)) (both (not (is_in x.number (0 ∷ numbers rows))) (own_numbers (numbers rows)) h).0)
 
-zero_in : (ns : List ℕ) → isIn 0 (0 ∷ ns) ≡ true
-unfolding isIn
+zero_in : (ns : List ℕ) → is_in 0 (0 ∷ ns) ≡ true
+unfolding is_in
 zero_in ns = refl
 
-later-in : (n m : ℕ) (ns : List ℕ) → isIn m (0 ∷ ns) ≡ true → isIn m (0 ∷ n ∷ ns) ≡ true
-unfolding isIn
-later-in n m ns h = go (eqb m 0) refl h
+later_in : (n m : ℕ) (ns : List ℕ) → is_in m (0 ∷ ns) ≡ true → is_in m (0 ∷ n ∷ ns) ≡ true
+unfolding is_in
+later_in n m ns h = go (eqb m 0) refl h
   where
-    go : (b : Bool) → eqb m 0 ≡ b → eqb m 0 || isIn m ns ≡ true → eqb m 0 || (eqb m n || isIn m ns) ≡ true
+    go : (b : Bool) → eqb m 0 ≡ b → eqb m 0 || is_in m ns ≡ true → eqb m 0 || (eqb m n || is_in m ns) ≡ true
     go true e k = rw e refl
-    go false e k = rw e (or_right (eqb m n) (isIn m ns) (rw e at k))
+    go false e k = rw e (or_right (eqb m n) (is_in m ns) (rw e at k))
 
-number_in : (xs : List Row) (x : Row) (ys : List Row) → isIn x.number (0 ∷ numbers (xs ++ (x ∷ ys))) ≡ true
-unfolding isIn numbers
+number_in : (xs : List Row) (x : Row) (ys : List Row) → is_in x.number (0 ∷ numbers (xs ++ (x ∷ ys))) ≡ true
+unfolding is_in numbers
 number_in [] x ys = or_right (eqb x.number 0) _ (rw (eq-eqb x.number x.number refl) refl)
-number_in (y ∷ xs) x ys = later-in y.number x.number (numbers (xs ++ (x ∷ ys))) (number_in xs x ys)
+number_in (y ∷ xs) x ys = later_in y.number x.number (numbers (xs ++ (x ∷ ys))) (number_in xs x ys)
 
 -- ---- the answer
 
@@ -68,15 +68,15 @@ unfolding answer
 refuses [] x ys p h = rw h refl
 refuses (y ∷ xs) x ys p h = rw p.0 (refuses xs x ys p.1 h)
 
-pub listed : (rows : List Row) → isIn (answer rows) (0 ∷ numbers rows) ≡ true
+pub listed : (rows : List Row) → is_in (answer rows) (0 ∷ numbers rows) ≡ true
 unfolding answer numbers
 listed [] = zero_in []
 listed (x ∷ rows) = go (listed rows) x.when refl
   where
-    go : isIn (answer rows) (0 ∷ numbers rows) ≡ true → (b : Bool) → x.when ≡ b →
-        isIn (cond x.when x.number (answer rows)) (0 ∷ x.number ∷ numbers rows) ≡ true
+    go : is_in (answer rows) (0 ∷ numbers rows) ≡ true → (b : Bool) → x.when ≡ b →
+        is_in (cond x.when x.number (answer rows)) (0 ∷ x.number ∷ numbers rows) ≡ true
     go l true e = rw e (number_in [] x rows)
-    go l false e = rw e (later-in x.number (answer rows) (numbers rows) l)
+    go l false e = rw e (later_in x.number (answer rows) (numbers rows) l)
 
 pub accepts : (rows : List Row) → Passes rows → answer rows ≡ 0
 unfolding answer
@@ -87,7 +87,7 @@ pub passes-parts : (xs ys : List Row) → Passes (xs ++ ys) → Passes xs × Pas
 passes-parts [] ys p = (tt, p)
 passes-parts (x ∷ xs) ys p = let q = passes-parts xs ys p.1 in ((p.0, q.0), q.1)
 
-pub passed : (rows : List Row) → ownNumbers (numbers rows) ≡ true → answer rows ≡ 0 → Passes rows
+pub passed : (rows : List Row) → own_numbers (numbers rows) ≡ true → answer rows ≡ 0 → Passes rows
 unfolding answer
 passed [] own e = tt
 passed (x ∷ rows) own e = go (λ k. passed rows (own-rest x rows own) k) x.when refl e
@@ -96,7 +96,7 @@ passed (x ∷ rows) own e = go (λ k. passed rows (own-rest x rows own) k) x.whe
     go rest true w k = absurd (own_first x rows own 0 (zero_in (numbers rows)) (rw w at k))
     go rest false w k = (w, rest (rw w at k))
 
-pub refused : (xs : List Row) (x : Row) (ys : List Row) → ownNumbers (numbers (xs ++ (x ∷ ys))) ≡ true →
+pub refused : (xs : List Row) (x : Row) (ys : List Row) → own_numbers (numbers (xs ++ (x ∷ ys))) ≡ true →
     answer (xs ++ (x ∷ ys)) ≡ x.number → Passes xs × (x.when ≡ true)
 unfolding answer
 refused [] x ys own e = (tt, go x.when refl e)
@@ -128,18 +128,18 @@ without (y ∷ xs) x ys n = go (λ k. without xs x ys k) y.when refl n
     go rest false w k = rw w (rest (rw w at k))
 
 -- the one statement about a list of rows
-pub decides : (rows : List Row) → ownNumbers (numbers rows) ≡ true → Decides rows (answer rows)
+pub decides : (rows : List Row) → own_numbers (numbers rows) ≡ true → Decides rows (answer rows)
 decides rows own =
     record {
       refuse = λ xs x ys e p h. ap answer e ∙ refuses xs x ys p h;
-      refused = λ xs x ys e h. refused xs x ys (subst (λ (rs : List Row). ownNumbers (numbers rs) ≡ true) e own) (sym (ap answer e) ∙ h);
+      refused = λ xs x ys e h. refused xs x ys (subst (λ (rs : List Row). own_numbers (numbers rs) ≡ true) e own) (sym (ap answer e) ∙ h);
       accept = accepts rows;
       accepted = passed rows own;
       listed = listed rows;
     }
 
 -- a list in two parts: the second's answer counts where the first's is 0
-pub two-parts : (xs ys : List Row) → ownNumbers (numbers xs) ≡ true → answer (xs ++ ys) ≡ first_of (answer xs) (answer ys)
+pub two-parts : (xs ys : List Row) → own_numbers (numbers xs) ≡ true → answer (xs ++ ys) ≡ first_of (answer xs) (answer ys)
 unfolding answer first_of
 two-parts [] ys own = refl
 two-parts (x ∷ xs) ys own = go (two-parts xs ys (own-rest x xs own)) x.when refl
@@ -149,7 +149,7 @@ two-parts (x ∷ xs) ys own = go (two-parts xs ys (own-rest x xs own)) x.when re
     go rest true w = rw (w, ne_eqb x.number 0 (own_first x xs own 0 (zero_in (numbers xs)))) refl
     go rest false w = rw w rest
 
-pub joined : {r a b : ℕ} (xs ys : List Row) → ownNumbers (numbers xs) ≡ true → r ≡ first_of a b → a ≡ answer xs → b ≡ answer ys → r ≡ answer (xs ++ ys)
+pub joined : {r a b : ℕ} (xs ys : List Row) → own_numbers (numbers xs) ≡ true → r ≡ first_of a b → a ≡ answer xs → b ≡ answer ys → r ≡ answer (xs ++ ys)
 joined xs ys own d e f = d ∙ ap₂ first_of e f ∙ sym (two-parts xs ys own)
 
 -- both accept where neither refuses
@@ -171,7 +171,7 @@ unfolding first_of
 first_goes a z = rw z refl
 
 -- a call that stops at a refusal of the first part, and one that goes on
-module _ {r : ℕ} (xs ys : List Row) (own : ownNumbers (numbers xs) ≡ true) (e : r ≡ answer xs) where
+module _ {r : ℕ} (xs ys : List Row) (own : own_numbers (numbers xs) ≡ true) (e : r ≡ answer xs) where
   pub stops : (r ≡ 0 → ⊥) → r ≡ answer (xs ++ ys)
   stops n = first_stops (answer ys) e n ∙ sym (two-parts xs ys own)
 

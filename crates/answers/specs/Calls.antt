@@ -16,9 +16,9 @@ InTurn Promise v (c ∷ cs) [] = ⊥
 InTurn Promise v (c ∷ cs) (g ∷ gs) = Promise v c g × InTurn Promise g.next cs gs
 
 -- what a list of calls gives, by what one call gives
-unfoldable pub givenBy : {X C : Type 0} → (X → C → Gave X) → X → List C → List (Gave X)
-givenBy gives v [] = []
-givenBy gives v (c ∷ cs) = gives v c ∷ givenBy gives (gives v c).next cs
+unfoldable pub given_by : {X C : Type 0} → (X → C → Gave X) → X → List C → List (Gave X)
+given_by gives v [] = []
+given_by gives v (c ∷ cs) = gives v c ∷ given_by gives (gives v c).next cs
 
 -- the value after the last of them
 unfoldable pub last_of : {X : Type 0} → X → List (Gave X) → X
@@ -27,5 +27,5 @@ last_of v (g ∷ gs) = last_of g.next gs
 
 -- each gave what the definitions say of it, and after the last stands the value that they say of the list
 pub record ByList {X C : Type 0} (gives : X → C → Gave X) (run : X → List C → X) (v : X) (cs : List C) (gs : List (Gave X)) : Type 0 where
-  pub each : gs ≡ givenBy gives v cs
+  pub each : gs ≡ given_by gives v cs
   pub last : last_of v gs ≡ run v cs

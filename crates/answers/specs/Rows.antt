@@ -25,18 +25,18 @@ unfoldable pub numbers : List Row → List ℕ
 numbers [] = []
 numbers (x ∷ rows) = x.number ∷ numbers rows
 
-unfoldable pub isIn : ℕ → List ℕ → Bool
-isIn n [] = false
-isIn n (m ∷ ms) = eqb n m || isIn n ms
+unfoldable pub is_in : ℕ → List ℕ → Bool
+is_in n [] = false
+is_in n (m ∷ ms) = eqb n m || is_in n ms
 
-unfoldable pub allIn : List ℕ → List ℕ → Bool
-allIn [] ms = true
-allIn (n ∷ ns) ms = isIn n ms && allIn ns ms
+unfoldable pub all_in : List ℕ → List ℕ → Bool
+all_in [] ms = true
+all_in (n ∷ ns) ms = is_in n ms && all_in ns ms
 
 -- each row has a number of its own, and none has 0
-unfoldable pub ownNumbers : List ℕ → Bool
-ownNumbers [] = true
-ownNumbers (n ∷ ns) = not (isIn n (0 ∷ ns)) && ownNumbers ns
+unfoldable pub own_numbers : List ℕ → Bool
+own_numbers [] = true
+own_numbers (n ∷ ns) = not (is_in n (0 ∷ ns)) && own_numbers ns
 
 -- r is the answer of the rows, by what a reader of the table expects of it
 pub record Decides (rows : List Row) (r : ℕ) : Type 0 where
@@ -47,4 +47,4 @@ pub record Decides (rows : List Row) (r : ℕ) : Type 0 where
   pub accept : Passes rows → r ≡ 0
   pub accepted : r ≡ 0 → Passes rows
   -- and no other number
-  pub listed : isIn r (0 ∷ numbers rows) ≡ true
+  pub listed : is_in r (0 ∷ numbers rows) ≡ true

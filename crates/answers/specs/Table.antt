@@ -12,9 +12,9 @@ abbrev entry : ℕ → String → String → Entry
 entry n w c = record { number = n; word = w; when = c }
 
 -- the numbers of a table
-unfoldable pub numbersOf : List Entry → List ℕ
-numbersOf [] = []
-numbersOf (e ∷ es) = e.number ∷ numbersOf es
+unfoldable pub numbers_of : List Entry → List ℕ
+numbers_of [] = []
+numbers_of (e ∷ es) = e.number ∷ numbers_of es
 
 abbrev pub table : List Entry
 table =

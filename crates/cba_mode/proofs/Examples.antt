@@ -3,17 +3,17 @@
 use mathlib.Core.Path.{refl}
 use Rattle.octets.specs.Xor.{xors}
 use Rattle.octets.specs.Numbers.{number, digits}
-use Rattle.field.specs.Field.{xtime, mulBits, mul, squares, inverse}
-use Rattle.field.specs.SBox.{bits_of, affine, sBox}
+use Rattle.field.specs.Field.{xtime, mul_bits, mul, squares, inverse}
+use Rattle.field.specs.SBox.{bits_of, affine, s_box}
 use Rattle.cba_mode.specs.Sets.{column}
 use Rattle.cba_mode.specs.Offsets
 use Rattle.cba_mode.specs.Offsets.{doubled, times, F, start, pad}
-use Rattle.cba_mode.specs.Forms.{sealForm}
-use Rattle.cba_mode.specs.Charge.{oldCharge, charge}
+use Rattle.cba_mode.specs.Forms.{seal_form}
+use Rattle.cba_mode.specs.Charge.{old_charge, charge}
 use Rattle.cba_mode.specs.Examples.{Examples}
 
 pub examples : Examples
-unfolding xors number digits xtime mulBits mul squares inverse bits_of affine sBox column doubled Offsets.two Offsets.three Offsets.four Offsets.five Offsets.six times F start pad sealForm oldCharge charge
+unfolding xors number digits xtime mul_bits mul squares inverse bits_of affine s_box column doubled Offsets.two Offsets.three Offsets.four Offsets.five Offsets.six times F start pad seal_form old_charge charge
 examples =
     record {
       one = refl;

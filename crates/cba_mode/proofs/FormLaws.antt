@@ -5,63 +5,63 @@ use mathlib.Core.Logic.{◌⊎◌, ⊎_elim}
 use Prim.Native.Nat.{ℕ, ◌+◌, ◌-◌, ◌<◌, ◌≤◌}
 use native.Mathlib.Omega.{arith}
 use borrow.Author.Tests.{le-leb, lt-leb, lt-ltb, le-ltb}
-use Rattle.cba_mode.specs.Forms.{fullBlocks, lastLength, sealForm, openForm}
+use Rattle.cba_mode.specs.Forms.{full_blocks, last_length, seal_form, open_form}
 use Rattle.cba_mode.specs.Forms.Form.{short, joined, separate}
-use Rattle.octets.proofs.Tests.{le-or-lt}
+use Rattle.octets.proofs.Tests.{le_or_lt}
 
 module _ (l t n : ℕ) where
   -- what sealing chooses
 
-  pub seal-short : n ≤ l → sealForm l t n ≡ short
-  unfolding sealForm
-  seal-short k = rw (le-leb n l k)
+  pub seal_short : n ≤ l → seal_form l t n ≡ short
+  unfolding seal_form
+  seal_short k = rw (le-leb n l k)
 
-  pub seal-joined : l < n → lastLength l n + t ≤ 16 → 1 ≤ fullBlocks l n → sealForm l t n ≡ joined
-  unfolding sealForm
-  seal-joined k p q = rw (lt-leb n l k, le-leb (lastLength l n + t) 16 p, le-leb 1 (fullBlocks l n) q)
+  pub seal_joined : l < n → last_length l n + t ≤ 16 → 1 ≤ full_blocks l n → seal_form l t n ≡ joined
+  unfolding seal_form
+  seal_joined k p q = rw (lt-leb n l k, le-leb (last_length l n + t) 16 p, le-leb 1 (full_blocks l n) q)
 
-  pub seal-long : l < n → 16 < lastLength l n + t → sealForm l t n ≡ separate
-  unfolding sealForm
-  seal-long k p = rw (lt-leb n l k, lt-leb (lastLength l n + t) 16 p)
+  pub seal_long : l < n → 16 < last_length l n + t → seal_form l t n ≡ separate
+  unfolding seal_form
+  seal_long k p = rw (lt-leb n l k, lt-leb (last_length l n + t) 16 p)
 
-  pub seal-single : l < n → lastLength l n + t ≤ 16 → fullBlocks l n < 1 → sealForm l t n ≡ separate
-  unfolding sealForm
-  seal-single k p q = rw (lt-leb n l k, le-leb (lastLength l n + t) 16 p, lt-leb 1 (fullBlocks l n) q)
+  pub seal_single : l < n → last_length l n + t ≤ 16 → full_blocks l n < 1 → seal_form l t n ≡ separate
+  unfolding seal_form
+  seal_single k p q = rw (lt-leb n l k, le-leb (last_length l n + t) 16 p, lt-leb 1 (full_blocks l n) q)
 
   -- one block is never joined
-  pub seal-one : l < n → fullBlocks l n < 1 → sealForm l t n ≡ separate
-  seal-one k q = ⊎_elim (λ p. seal-single k p q) (λ p. seal-long k p) (le-or-lt (lastLength l n + t) 16)
+  pub seal_one : l < n → full_blocks l n < 1 → seal_form l t n ≡ separate
+  seal_one k q = ⊎_elim (λ p. seal_single k p q) (λ p. seal_long k p) (le_or_lt (last_length l n + t) 16)
 
   -- what opening reads off
 
-  pub open-short : n ≤ l + t → openForm l t n ≡ short
-  unfolding openForm
-  open-short k = rw (le-leb n (l + t) k)
+  pub open_short : n ≤ l + t → open_form l t n ≡ short
+  unfolding open_form
+  open_short k = rw (le-leb n (l + t) k)
 
-  pub open-joined : l + t < n → t < lastLength l n → 1 ≤ fullBlocks l n → openForm l t n ≡ joined
-  unfolding openForm
-  open-joined k p q = rw (lt-leb n (l + t) k, lt-ltb t (lastLength l n) p, le-leb 1 (fullBlocks l n) q)
+  pub open_joined : l + t < n → t < last_length l n → 1 ≤ full_blocks l n → open_form l t n ≡ joined
+  unfolding open_form
+  open_joined k p q = rw (lt-leb n (l + t) k, lt-ltb t (last_length l n) p, le-leb 1 (full_blocks l n) q)
 
-  pub open-long : l + t < n → lastLength l n ≤ t → openForm l t n ≡ separate
-  unfolding openForm
-  open-long k p = rw (lt-leb n (l + t) k, le-ltb t (lastLength l n) p)
+  pub open_long : l + t < n → last_length l n ≤ t → open_form l t n ≡ separate
+  unfolding open_form
+  open_long k p = rw (lt-leb n (l + t) k, le-ltb t (last_length l n) p)
 
-  pub open-single : l + t < n → t < lastLength l n → fullBlocks l n < 1 → openForm l t n ≡ separate
-  unfolding openForm
-  open-single k p q = rw (lt-leb n (l + t) k, lt-ltb t (lastLength l n) p, lt-leb 1 (fullBlocks l n) q)
+  pub open_single : l + t < n → t < last_length l n → full_blocks l n < 1 → open_form l t n ≡ separate
+  unfolding open_form
+  open_single k p q = rw (lt-leb n (l + t) k, lt-ltb t (last_length l n) p, lt-leb 1 (full_blocks l n) q)
 
   -- a statement about every message length, by its form
-  pub by_form : {X : Type 0} → (n ≤ l → X) → (l < n → lastLength l n + t ≤ 16 → 1 ≤ fullBlocks l n → X) →
-      (l < n → 16 < lastLength l n + t → X) → (l < n → lastLength l n + t ≤ 16 → fullBlocks l n < 1 → X) → X
+  pub by_form : {X : Type 0} → (n ≤ l → X) → (l < n → last_length l n + t ≤ 16 → 1 ≤ full_blocks l n → X) →
+      (l < n → 16 < last_length l n + t → X) → (l < n → last_length l n + t ≤ 16 → full_blocks l n < 1 → X) → X
   by_form a b c d =
       ⊎_elim a
-      (λ k. ⊎_elim (λ p. ⊎_elim (λ q. b k p q) (λ q. d k p q) (le-or-lt 1 (fullBlocks l n))) (λ p. c k p) (le-or-lt (lastLength l n + t) 16))
-      (le-or-lt n l)
+      (λ k. ⊎_elim (λ p. ⊎_elim (λ q. b k p q) (λ q. d k p q) (le_or_lt 1 (full_blocks l n))) (λ p. c k p) (le_or_lt (last_length l n + t) 16))
+      (le_or_lt n l)
 
-pub same-form : (l t n : ℕ) → t ≤ 16 → openForm l t (n + t) ≡ sealForm l t n
+pub same-form : (l t n : ℕ) → t ≤ 16 → open_form l t (n + t) ≡ seal_form l t n
 same-form l t n h =
     by_form l t n
-    (λ k. open-short l t (n + t) (omega arith) ∙ sym (seal-short l t n k))
-    (λ k p q. open-joined l t (n + t) (omega arith) (omega arith) (omega arith) ∙ sym (seal-joined l t n k p q))
-    (λ k p. open-long l t (n + t) (omega arith) (omega arith) ∙ sym (seal-long l t n k p))
-    (λ k p q. open-single l t (n + t) (omega arith) (omega arith) (omega arith) ∙ sym (seal-single l t n k p q))
+    (λ k. open_short l t (n + t) (omega arith) ∙ sym (seal_short l t n k))
+    (λ k p q. open_joined l t (n + t) (omega arith) (omega arith) (omega arith) ∙ sym (seal_joined l t n k p q))
+    (λ k p. open_long l t (n + t) (omega arith) (omega arith) ∙ sym (seal_long l t n k p))
+    (λ k p q. open_single l t (n + t) (omega arith) (omega arith) (omega arith) ∙ sym (seal_single l t n k p q))

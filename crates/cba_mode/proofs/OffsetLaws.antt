@@ -16,9 +16,9 @@ use lib.Seq.{take_at, drop_at}
 use Rattle.octets.specs.Strings.{Bytes, Octets}
 use Rattle.octets.specs.Xor.{xors}
 use Rattle.octets.specs.Numbers.{number, digits}
-use Rattle.octets.proofs.Strings.{bytes-append, bytes_take, bytes_drop, bytes-replicate}
+use Rattle.octets.proofs.Strings.{bytes_append, bytes_take, bytes_drop, bytes-replicate}
 use Rattle.octets.proofs.Xor.{length-xors, bytes-xors}
-use Rattle.octets.proofs.Numbers.{length_digits, bytes-digits, number_digits, digits-xor, power-two, number_more}
+use Rattle.octets.proofs.Numbers.{length_digits, bytes-digits, number_digits, digits_xor, power-two, number_more}
 use Rattle.cba_mode.specs.Offsets.{doubled, two, three, four, five, six, times, F, start, offset, pad}
 
 -- ---- lengths and bytes
@@ -29,8 +29,8 @@ xors-octets n {a} {b} p q = record { size = length-xors a b ∙ omega (arith, p.
 digits-octets : (n x : ℕ) → Octets n (digits n x)
 digits-octets n x = record { size = length_digits n x; small = bytes-digits n x }
 
-pub append-octets : {m n : ℕ} {s t : List ℕ} → Octets m s → Octets n t → Octets (m + n) (s ++ t)
-append-octets {m} {n} {s} {t} p q = record { size = length-append s t ∙ omega (arith, p.size, q.size); small = bytes-append s t p.small q.small }
+pub append_octets : {m n : ℕ} {s t : List ℕ} → Octets m s → Octets n t → Octets (m + n) (s ++ t)
+append_octets {m} {n} {s} {t} p q = record { size = length-append s t ∙ omega (arith, p.size, q.size); small = bytes_append s t p.small q.small }
 
 two-octets : (A : List ℕ) → Octets 8 (two A)
 unfolding two
@@ -60,7 +60,7 @@ drop-octets m n {s} o = record { size = length-drop m s ∙ omega (arith, o.size
 -- an offset is a block
 pub F-octets : (p q : ℕ) {Δ : List ℕ} → Octets 16 Δ → Octets 16 (F p q Δ)
 unfolding F
-F-octets p q o = append-octets (times-octets p (take-octets 8 16 o (omega arith))) (times-octets q (drop-octets 8 16 o))
+F-octets p q o = append_octets (times-octets p (take-octets 8 16 o (omega arith))) (times-octets q (drop-octets 8 16 o))
 
 pub start-octets : (R : List ℕ) (w : ℕ) → Octets 16 (start R w)
 unfolding start
@@ -76,7 +76,7 @@ unfolding pad
 pad-octets A b =
     record {
       size = length-take 16 (A ++ (0x80 ∷ replicate 15 0)) ∙ omega (arith, length-append A (0x80 ∷ replicate 15 0));
-      small = bytes_take 16 (A ++ (0x80 ∷ replicate 15 0)) (bytes-append A _ b (omega arith, bytes-replicate 15 0 (omega arith)));
+      small = bytes_take 16 (A ++ (0x80 ∷ replicate 15 0)) (bytes_append A _ b (omega arith, bytes-replicate 15 0 (omega arith)));
     }
 
 -- stepping once before or once after
@@ -98,18 +98,18 @@ double-number x h =
     ap (λ (k : ℕ). digits 8 (bit_xor (x / 0x8000000000000000 * 0x1b) k)) {x = x % 0x8000000000000000 * 2} {y = x * 2 % 2 ^ 64} (omega arith)
     ∙ sym (two-number x h)
 
-pub triple-number : (x d : ℕ) → digits 8 d ≡ two (digits 8 x) → digits 8 (bit_xor x d) ≡ three (digits 8 x)
+pub triple_number : (x d : ℕ) → digits 8 d ≡ two (digits 8 x) → digits 8 (bit_xor x d) ≡ three (digits 8 x)
 unfolding three
-triple-number x d e = digits-xor 8 x d ∙ ap (xors (digits 8 x)) e
+triple_number x d e = digits_xor 8 x d ∙ ap (xors (digits 8 x)) e
 
 -- ---- p·A, case by case
 
 pub times-at : (n : ℕ) {p : ℕ} (A : List ℕ) → p ≡ n → times p A ≡ times n A
 times-at n A e = ap (λ (k : ℕ). times k A) e
 
-pub times-other : (p : ℕ) (A : List ℕ) → (p ≡ 2 → ⊥) → (p ≡ 3 → ⊥) → (p ≡ 4 → ⊥) → (p ≡ 5 → ⊥) → (p ≡ 6 → ⊥) → A ≡ times p A
+pub times_other : (p : ℕ) (A : List ℕ) → (p ≡ 2 → ⊥) → (p ≡ 3 → ⊥) → (p ≡ 4 → ⊥) → (p ≡ 5 → ⊥) → (p ≡ 6 → ⊥) → A ≡ times p A
 unfolding times
-times-other p A a b c d e = rw (ne_eqb p 2 a, ne_eqb p 3 b, ne_eqb p 4 c, ne_eqb p 5 d, ne_eqb p 6 e)
+times_other p A a b c d e = rw (ne_eqb p 2 a, ne_eqb p 3 b, ne_eqb p 4 c, ne_eqb p 5 d, ne_eqb p 6 e)
 
 -- F on the two halves
 pub F-halves : (p q x y u v : ℕ) → digits 8 u ≡ times p (digits 8 x) → digits 8 v ≡ times q (digits 8 y) → digits 8 u ++ digits 8 v ≡ F p q (digits 8 x ++ digits 8 y)

@@ -11,12 +11,12 @@ use Rattle.octets.specs.Strings.{eqs, table}
 use Rattle.octets.specs.Xor.{xors}
 use Rattle.octets.specs.Numbers.{number, digits}
 use Rattle.cba_mode.specs.Offsets
-use Rattle.cba_mode.specs.Offsets.{doubled, times, F, start, offset, pad, leading, lastBytes, butLast}
-use Rattle.cba_mode.specs.Data.{blockSum, withRest, dataSum, L, dataHash, tagOfData}
-use Rattle.cba_mode.specs.Forms.{sealForm, openForm}
+use Rattle.cba_mode.specs.Offsets.{doubled, times, F, start, offset, pad, leading, last_bytes, but_last}
+use Rattle.cba_mode.specs.Data.{block_sum, with_rest, data_sum, L, data_hash, tag_of_data}
+use Rattle.cba_mode.specs.Forms.{seal_form, open_form}
 use Rattle.cba_mode.specs.Seal
-use Rattle.cba_mode.specs.Seal.{checksum, cipherBlocks, R, masked, shortTag, joinedBlock, joinedLast, joinedEnd, joinedTail, lastBlock, lastOffset, separateTag, separateTail, sealAs, sealWith, ENC}
-use Rattle.cba_mode.specs.Open.{Opened, isFalse, verified, check, after, plainBlocks, fromBlocks, joinedPlain, joinedRest, joinedAttempt, separateAttempt, attempt, openWith, DEC}
+use Rattle.cba_mode.specs.Seal.{checksum, cipher_blocks, R, masked, short_tag, joined_block, joined_last, joined_end, joined_tail, last_block, last_offset, separate_tag, separate_tail, seal_as, seal_with, ENC}
+use Rattle.cba_mode.specs.Open.{Opened, is_false, verified, check, after, plain_blocks, from_blocks, joined_plain, joined_rest, joined_attempt, separate_attempt, attempt, open_with, DEC}
 use Rattle.cba_mode.specs.Open.Opened.{opened, refused}
 
 -- E moves byte 5 i + 3 to place i and maps it by 7 x + 13 i + 1; D is its inverse, 183 being 1/7 and 13 being 1/5
@@ -55,6 +55,6 @@ rows =
     ∷ vector 96 48 (digits 12 0x222502d125a6628804eb2adc) (digits 7 0x9451674e7b000a) (digits 37 0x99926378332d0d223facf180e93712740d6e1bddb6ed377fcf0eb836720503ec160f5736c8) (digits 49 0xc25a5dd7ad54b88316fe7606be27fd6fb752f49324975a7d78af970affba8448e40cf724ed77f0726bdbbe20ca5433ee17)
     ∷ []
 
-test : T (isFalse (DEC E D 96 48 (replicate 12 0) [] (replicate 29 0)) && all rows)
-unfolding E D is isFalse vector all rows xors number digits table doubled Offsets.two Offsets.three Offsets.four Offsets.five Offsets.six times F start offset pad leading lastBytes butLast blockSum withRest dataSum L dataHash tagOfData sealForm openForm checksum cipherBlocks R masked shortTag Seal.T joinedBlock joinedLast joinedEnd joinedTail lastBlock lastOffset separateTag separateTail sealAs sealWith verified check after plainBlocks fromBlocks joinedPlain joinedRest joinedAttempt separateAttempt attempt openWith
+test : T (is_false (DEC E D 96 48 (replicate 12 0) [] (replicate 29 0)) && all rows)
+unfolding E D is is_false vector all rows xors number digits table doubled Offsets.two Offsets.three Offsets.four Offsets.five Offsets.six times F start offset pad leading last_bytes but_last block_sum with_rest data_sum L data_hash tag_of_data seal_form open_form checksum cipher_blocks R masked short_tag Seal.T joined_block joined_last joined_end joined_tail last_block last_offset separate_tag separate_tail seal_as seal_with verified check after plain_blocks from_blocks joined_plain joined_rest joined_attempt separate_attempt attempt open_with
 test = tt

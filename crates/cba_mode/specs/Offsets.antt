@@ -64,9 +64,9 @@ unfoldable pub leading : ℕ → List ℕ → List ℕ
 leading n A = replicate (n - length A) 0 ++ A
 
 -- LSB: the last k bytes of A
-unfoldable pub lastBytes : ℕ → List ℕ → List ℕ
-lastBytes k A = drop (length A - k) A
+unfoldable pub last_bytes : ℕ → List ℕ → List ℕ
+last_bytes k A = drop (length A - k) A
 
 -- the first bytes of A, all but the last k
-unfoldable pub butLast : ℕ → List ℕ → List ℕ
-butLast k A = take (length A - k) A
+unfoldable pub but_last : ℕ → List ℕ → List ℕ
+but_last k A = take (length A - k) A

@@ -3,9 +3,9 @@
 -- Assumes nothing.
 use Rattle.std.specs.Prelude.{◌≡◌, List, ℕ, ◌+◌, length}
 use Rattle.octets.specs.Strings.{Bytes, Octets}
-use Rattle.cba_mode.specs.Sets.{tagBytes}
-use Rattle.cba_mode.specs.Seal.{sealWith}
-use Rattle.cba_mode.specs.Open.{openWith}
+use Rattle.cba_mode.specs.Sets.{tag_bytes}
+use Rattle.cba_mode.specs.Seal.{seal_with}
+use Rattle.cba_mode.specs.Open.{open_with}
 use Rattle.cba_mode.specs.Open.Opened.{opened}
 
 -- E and D take blocks to blocks, and each undoes the other
@@ -18,8 +18,8 @@ pub record BlockCipher (E D : List ℕ → List ℕ) : Type 0 where
 -- at one nonce and one T_A
 pub record RoundTrip (E D : List ℕ → List ℕ) (τ b : ℕ) (N Ta : List ℕ) : Type 0 where
   -- a sealing has t bytes more than its message
-  pub longer : (M : List ℕ) → Bytes M → Octets (length M + tagBytes τ) (sealWith E τ b N Ta M)
+  pub longer : (M : List ℕ) → Bytes M → Octets (length M + tag_bytes τ) (seal_with E τ b N Ta M)
   -- it opens to the message
-  pub opens : (M : List ℕ) → Bytes M → openWith E D τ b N Ta (sealWith E τ b N Ta M) ≡ opened M
+  pub opens : (M : List ℕ) → Bytes M → open_with E D τ b N Ta (seal_with E τ b N Ta M) ≡ opened M
   -- what opens to a message is its sealing
-  pub only : (C M : List ℕ) → Bytes C → openWith E D τ b N Ta C ≡ opened M → Bytes M × (sealWith E τ b N Ta M ≡ C)
+  pub only : (C M : List ℕ) → Bytes C → open_with E D τ b N Ta C ≡ opened M → Bytes M × (seal_with E τ b N Ta M ≡ C)

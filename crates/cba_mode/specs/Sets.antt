@@ -26,20 +26,20 @@ unfoldable pub is_set : ℕ → Bool
 is_set n = leb 1 n && leb n 10
 
 -- the key's length in bytes
-abbrev pub keyBytes : ℕ → ℕ
-keyBytes n = column 0 n / 8
+abbrev pub key_bytes : ℕ → ℕ
+key_bytes n = column 0 n / 8
 
 -- τ, the tag's length in bits
-abbrev pub tagBits : ℕ → ℕ
-tagBits n = column 1 n
+abbrev pub tag_bits : ℕ → ℕ
+tag_bits n = column 1 n
 
 -- b, the capacity exponent
 abbrev pub capacity : ℕ → ℕ
 capacity n = column 2 n
 
 -- t, the tag's length in bytes
-abbrev pub tagBytes : ℕ → ℕ
-tagBytes τ = τ / 8
+abbrev pub tag_bytes : ℕ → ℕ
+tag_bytes τ = τ / 8
 
 -- ℓ = min(n − 2b − 32, τ) with n = 128, in bits
 abbrev pub ell : ℕ → ℕ → ℕ

@@ -11,15 +11,15 @@ use Rattle.octets.specs.Strings.{over, eqs}
 use Rattle.octets.specs.Xor.{xors}
 use Rattle.octets.proofs.Xor.{length-xors, take-xors, drop-xors}
 use Rattle.aes_schedule.specs.Words.{block_of}
-use Rattle.cba_steps.specs.Halves.{halvesOf}
-use Rattle.cba_mode.specs.Sets.{tagBytes}
-use Rattle.cba_mode.specs.Offsets.{F, offset, lastBytes, butLast}
-use Rattle.cba_mode.specs.Seal.{checksum, cipherBlocks, lastBlock, separateTag}
-use Rattle.cba_mode.specs.Open.{Attempt, Tried, verified, after, fromBlocks, joinedPlain, joinedRest, joinedAttempt, separateAttempt}
+use Rattle.cba_steps.specs.Halves.{halves_of}
+use Rattle.cba_mode.specs.Sets.{tag_bytes}
+use Rattle.cba_mode.specs.Offsets.{F, offset, last_bytes, but_last}
+use Rattle.cba_mode.specs.Seal.{checksum, cipher_blocks, last_block, separate_tag}
+use Rattle.cba_mode.specs.Open.{Attempt, Tried, verified, after, from_blocks, joined_plain, joined_rest, joined_attempt, separate_attempt}
 use Rattle.cba_mode.proofs.Undoing.{plain-cipher}
 use Rattle.cba_sealing.specs.declared.blocks.Running.{Running}
-use Rattle.cba_sealing.specs.Calls.{Passed, tagBlock}
-use Rattle.cba_opening.specs.Calls.{endAs}
+use Rattle.cba_sealing.specs.Calls.{Passed, tag_block}
+use Rattle.cba_opening.specs.Calls.{end_as}
 use Rattle.octets.proofs.Parts.{then, to_end, rest-size, size_of}
 
 -- the place where a string ends without its last t bytes, from a part of it
@@ -42,17 +42,17 @@ masked-size : (c e : List ℕ) → length c ≤ length e → length (xors c (tak
 masked-size c e h = length-xors c (take (length c) e) ∙ simp length-take (omega arith)
 
 last-masked : (c e : List ℕ) (k : ℕ) → k ≤ length c → length c ≤ length e →
-    lastBytes k (xors c (take (length c) e)) ≡ xors (drop (length c - k) c) (take k (drop (length c - k) e))
-unfolding lastBytes
+    last_bytes k (xors c (take (length c) e)) ≡ xors (drop (length c - k) c) (take k (drop (length c - k) e))
+unfolding last_bytes
 last-masked c e k h g =
     let n = length c - k in
     let all : n + k ≡ length c = omega arith in
     ap (λ (m : ℕ). drop (m - k) (xors c (take (length c) e))) (masked-size c e g) ∙ drop-xors n c (take (length c) e)
     ∙ ap (xors (drop n c)) (ap (λ (m : ℕ). drop n (take m e)) (sym all) ∙ last-part e n k (omega arith))
 
-but-masked : (c e : List ℕ) (k : ℕ) → length c ≤ length e → butLast k (xors c (take (length c) e)) ≡ xors (take (length c - k) c) (take (length c - k) e)
-unfolding butLast
-but-masked c e k g =
+but_masked : (c e : List ℕ) (k : ℕ) → length c ≤ length e → but_last k (xors c (take (length c) e)) ≡ xors (take (length c - k) c) (take (length c - k) e)
+unfolding but_last
+but_masked c e k g =
     let n = length c - k in
     ap (λ (m : ℕ). take (m - k) (xors c (take (length c) e))) (masked-size c e g) ∙ take-xors n c (take (length c) e)
     ∙ ap (xors (take n c)) (take-take n (length c) e (omega arith))
@@ -61,7 +61,7 @@ but-masked c e k g =
 pub joined-tag-turn : (e c tag z t : List ℕ) (r : Bool) → let n = length c - length tag in
     length tag ≤ length c → length c ≤ length e →
     t ≡ xors (take (length c - n) (drop n c)) (take (length (take (length c - n) (drop n c))) (drop n e)) ++ z →
-    r ≡ eqs (take (length tag) t) tag → r ≡ eqs (lastBytes (length tag) (xors c (take (length c) e))) tag
+    r ≡ eqs (take (length tag) t) tag → r ≡ eqs (last_bytes (length tag) (xors c (take (length c) e))) tag
 joined-tag-turn e c tag z t r h g et er =
     let n = length c - length tag in
     let k = length tag in
@@ -76,65 +76,65 @@ module _ (E D : List ℕ → List ℕ) where
   pub joined-rest-turn : (Δ m c tag d e out : List ℕ) (r : Bool) → let n = length c - length tag in
       e ≡ E (xors m (F 2 2 Δ)) → length e ≡ 16 → length c ≤ 16 →
       out ≡ xors (take n c) (take (length (take n c)) e) ++ drop (length (take n c)) d →
-      r ≡ eqs (lastBytes (length tag) (xors c (take (length c) e))) tag →
-      (r ≡ eqs (lastBytes (length tag) (joinedRest E D Δ c m)) tag) × (out ≡ butLast (length tag) (joinedRest E D Δ c m) ++ drop n d)
-  unfolding joinedRest
+      r ≡ eqs (last_bytes (length tag) (xors c (take (length c) e))) tag →
+      (r ≡ eqs (last_bytes (length tag) (joined_rest E D Δ c m)) tag) × (out ≡ but_last (length tag) (joined_rest E D Δ c m) ++ drop n d)
+  unfolding joined_rest
   joined-rest-turn Δ m c tag d e out r ee le h eo er =
       let n = length c - length tag in
       let l : length (take n c) ≡ n = simp length-take (omega arith) in
       rw (← ee)
-      (er, eo ∙ ap (λ (k : ℕ). xors (take n c) (take k e) ++ drop k d) l ∙ ap (λ (x : List ℕ). x ++ drop n d) (sym (but-masked c e (length tag) (omega arith))))
+      (er, eo ∙ ap (λ (k : ℕ). xors (take n c) (take k e) ++ drop k d) l ∙ ap (λ (x : List ℕ). x ++ drop n d) (sym (but_masked c e (length tag) (omega arith))))
 
-  pub joined-end-turn : (tag Δ S rest last m d out w : List ℕ) (r : Bool) → let n = length rest - 16 in
+  pub joined_end_turn : (tag Δ S rest last m d out w : List ℕ) (r : Bool) → let n = length rest - 16 in
       16 + length tag ≤ length rest → length rest ≤ length d + length tag →
-      last ≡ take 16 (take (length rest - n) (drop n rest)) → m ≡ joinedPlain E D Δ S (take n rest) last → length m ≡ 16 →
+      last ≡ take 16 (take (length rest - n) (drop n rest)) → m ≡ joined_plain E D Δ S (take n rest) last → length m ≡ 16 →
       out ≡ over m d → length out ≡ length d →
-      (r ≡ eqs (lastBytes (length tag) (joinedRest E D Δ (take n rest) m)) tag)
-      × (w ≡ butLast (length tag) (joinedRest E D Δ (take n rest) m) ++ drop (length (take n rest) - length tag) (take (length out - 16) (drop 16 out))) →
+      (r ≡ eqs (last_bytes (length tag) (joined_rest E D Δ (take n rest) m)) tag)
+      × (w ≡ but_last (length tag) (joined_rest E D Δ (take n rest) m) ++ drop (length (take n rest) - length tag) (take (length out - 16) (drop 16 out))) →
       length w ≡ length (take (length out - 16) (drop 16 out)) →
-      Tried (endAs true E D tag Δ S rest) (length rest - length tag) r d (take 16 out ++ (w ++ drop (length out - 16) (drop 16 out)))
-  unfolding endAs joinedAttempt verified butLast lastBytes
-  joined-end-turn tag Δ S rest last m d out w r h hd el em lm eo lo t lw =
+      Tried (end_as true E D tag Δ S rest) (length rest - length tag) r d (take 16 out ++ (w ++ drop (length out - 16) (drop 16 out)))
+  unfolding end_as joined_attempt verified but_last last_bytes
+  joined_end_turn tag Δ S rest last m d out w r h hd el em lm eo lo t lw =
       let n = length rest - 16 in
-      let lt : length tag ≡ tagBytes (8 * length tag) = omega arith in
+      let lt : length tag ≡ tag_bytes (8 * length tag) = omega arith in
       let l : length (take n rest) ≡ n = simp length-take (omega arith) in
       let el' : last ≡ drop n rest = el ∙ ap (take 16) (to_end rest n) ∙ take_all 16 (drop n rest) (simp length-drop (omega arith)) in
-      let em' : m ≡ joinedPlain E D Δ S (take n rest) (drop n rest) = em ∙ ap (joinedPlain E D Δ S (take n rest)) el' in
+      let em' : m ≡ joined_plain E D Δ S (take n rest) (drop n rest) = em ∙ ap (joined_plain E D Δ S (take n rest)) el' in
       let all : 16 + (length (take n rest) - length tag) ≡ length rest - length tag = omega (arith, l) in
       let both =
-      then d m out (butLast (length tag) (joinedRest E D Δ (take n rest) m)) w 16 (length (take n rest) - length tag)
+      then d m out (but_last (length tag) (joined_rest E D Δ (take n rest) m)) w 16 (length (take n rest) - length tag)
       (eo ∙ ap (λ (k : ℕ). m ++ drop k d) lm) lo (omega (arith, l)) t.1 lw
-      ∙ ap (λ (k : ℕ). (m ++ butLast (length tag) (joinedRest E D Δ (take n rest) m)) ++ drop k d) all in (
-        t.0 ∙ ap₂ (λ (x : List ℕ) (k : ℕ). eqs (lastBytes k (joinedRest E D Δ (take n rest) x)) tag) em' lt,
-        both ∙ ap₂ (λ (x : List ℕ) (k : ℕ). (x ++ butLast k (joinedRest E D Δ (take n rest) x)) ++ drop (length rest - length tag) d) em' lt,
+      ∙ ap (λ (k : ℕ). (m ++ but_last (length tag) (joined_rest E D Δ (take n rest) m)) ++ drop k d) all in (
+        t.0 ∙ ap₂ (λ (x : List ℕ) (k : ℕ). eqs (last_bytes k (joined_rest E D Δ (take n rest) x)) tag) em' lt,
+        both ∙ ap₂ (λ (x : List ℕ) (k : ℕ). (x ++ but_last k (joined_rest E D Δ (take n rest) x)) ++ drop (length rest - length tag) d) em' lt,
       )
 
-  pub separate-end-turn : (tag Δ S rest d e out : List ℕ) (r : Bool) → let n = length rest - length tag in
+  pub separate_end_turn : (tag Δ S rest d e out : List ℕ) (r : Bool) → let n = length rest - length tag in
       length tag ≤ length rest → length rest ≤ length d + length tag →
-      out ≡ lastBlock E Δ tag (take n rest) ++ drop (length (take n rest)) d → length out ≡ length d → e ≡ tagBlock E Δ tag S (take n out) →
+      out ≡ last_block E Δ tag (take n rest) ++ drop (length (take n rest)) d → length out ≡ length d → e ≡ tag_block E Δ tag S (take n out) →
       r ≡ eqs (take (length rest - n) (drop n rest)) (take (length tag) e) →
-      Tried (endAs false E D tag Δ S rest) (length rest - length tag) r d out
-  unfolding endAs separateAttempt verified butLast lastBytes separateTag
-  separate-end-turn tag Δ S rest d e out r h hd eo lo ee er =
+      Tried (end_as false E D tag Δ S rest) (length rest - length tag) r d out
+  unfolding end_as separate_attempt verified but_last last_bytes separate_tag
+  separate_end_turn tag Δ S rest d e out r h hd eo lo ee er =
       let n = length rest - length tag in
-      let lt : length tag ≡ tagBytes (8 * length tag) = omega arith in
-      let M = lastBlock E Δ tag (take n rest) in
+      let lt : length tag ≡ tag_bytes (8 * length tag) = omega arith in
+      let M = last_block E Δ tag (take n rest) in
       let l : length (take n rest) ≡ n = simp length-take (omega arith) in
       let eo' : out ≡ M ++ drop n d = eo ∙ ap (λ (k : ℕ). M ++ drop k d) l in
       let first : take n out ≡ M = ap (take n) eo' ∙ take_at M (drop n d) n (size_of d M out n eo' lo (omega arith)) in
-      rw (← lt) (er ∙ ap₂ eqs (to_end rest n) (ap (take (length tag)) (ee ∙ ap (tagBlock E Δ tag S) first)), eo')
+      rw (← lt) (er ∙ ap₂ eqs (to_end rest n) (ap (take (length tag)) (ee ∙ ap (tag_block E Δ tag S) first)), eo')
 
   -- the full blocks, then what ends the form
   pub blocks-turn : (end : List ℕ → List ℕ → List ℕ → Attempt) (t : ℕ) (Δ C d out w : List ℕ) (s : Running) (k : ℕ) (r : Bool) →
       let rest = take (length C - 16 * k) (drop (16 * k) C) in
-      16 * k + t ≤ length C → length C ≤ length d + t → length out ≡ length d → Passed D (checksum (cipherBlocks D Δ C k) k) Δ C d k s out →
-      Tried (end (halvesOf s.offset) (block_of s.sum) rest) (length rest - t) r (take (length out - 16 * k) (drop (16 * k) out)) w →
+      16 * k + t ≤ length C → length C ≤ length d + t → length out ≡ length d → Passed D (checksum (cipher_blocks D Δ C k) k) Δ C d k s out →
+      Tried (end (halves_of s.offset) (block_of s.sum) rest) (length rest - t) r (take (length out - 16 * k) (drop (16 * k) out)) w →
       length w ≡ length (take (length out - 16 * k) (drop (16 * k) out)) →
-      Tried (fromBlocks E D end Δ C k) (length C - t) r d (take (16 * k) out ++ (w ++ drop (length out - 16 * k) (drop (16 * k) out)))
-  unfolding fromBlocks
+      Tried (from_blocks E D end Δ C k) (length C - t) r d (take (16 * k) out ++ (w ++ drop (length out - 16 * k) (drop (16 * k) out)))
+  unfolding from_blocks
   blocks-turn end t Δ C d out w s k r h hd lo v tried lw =
-      let Ms = cipherBlocks D Δ C k in
+      let Ms = cipher_blocks D Δ C k in
       let rest = take (length C - 16 * k) (drop (16 * k) C) in
-      let same : end (halvesOf s.offset) (block_of s.sum) rest ≡ end (offset Δ k) (checksum Ms k) (drop (16 * k) C) = rw (v.offset-is, v.sum_is, to_end C (16 * k)) refl in
+      let same : end (halves_of s.offset) (block_of s.sum) rest ≡ end (offset Δ k) (checksum Ms k) (drop (16 * k) C) = rw (v.offset-is, v.sum_is, to_end C (16 * k)) refl in
       rw (plain-cipher E D Δ C k, ← same)
-      (after_turn (end (halvesOf s.offset) (block_of s.sum) rest) Ms d out w (16 * k) (length rest - t) (length C - t) r v.written lo (rest_end C (16 * k) t h) (omega arith) tried lw)
+      (after_turn (end (halves_of s.offset) (block_of s.sum) rest) Ms d out w (16 * k) (length rest - t) (length C - t) r v.written lo (rest_end C (16 * k) t h) (omega arith) tried lw)

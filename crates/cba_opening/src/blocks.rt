@@ -1,9 +1,9 @@
 // The full blocks of a ciphertext, two at a time. They go through D as words, from the ciphertext to the output.
 ghost use Rattle.std.specs.Prelude.{◌≡◌, ◌*◌, ◌≤◌, length};
-ghost use Rattle.fips197.specs.Cipher.{invCipher};
+ghost use Rattle.fips197.specs.Cipher.{inv_cipher};
 ghost use Rattle.aes_schedule.specs.Words.{block_of};
 ghost use Rattle.aes.specs.Context.{Encrypts, Decrypts};
-ghost use Rattle.cba_steps.specs.Halves.{halvesOf};
+ghost use Rattle.cba_steps.specs.Halves.{halves_of};
 ghost use Rattle.cba_sealing.specs.Calls.{through, Through};
 ghost use Rattle.cba_opening.specs.Calls.{OpenedMore, OpenedBlocks};
 
@@ -15,7 +15,7 @@ use cba_steps::{Halves, doubled, words};
 // M = D(C ⊕ Δ) ⊕ Δ.
 fn opened_block(key: &[u8], inv: &aes::Inverse, c: Words, h: Halves) -> Words
     requires { Decrypts key.now inv.now }
-    ensures { block_of result ≡ through (invCipher key.now) (halvesOf h) (block_of c) }
+    ensures { block_of result ≡ through (inv_cipher key.now) (halves_of h) (block_of c) }
 {
     let offset = words(h);
     xor_words(aes::decrypt_words(key, inv, xor_words(c, offset)), offset)
@@ -24,7 +24,7 @@ fn opened_block(key: &[u8], inv: &aes::Inverse, c: Words, h: Halves) -> Words
 // The same of two blocks, each with its own offset.
 fn opened_pair(key: &[u8], inv: &aes::Inverse, c: Pair, a: Halves, b: Halves) -> Pair
     requires { Decrypts key.now inv.now }
-    ensures { Through (invCipher key.now) (halvesOf a) (halvesOf b) c result }
+    ensures { Through (inv_cipher key.now) (halves_of a) (halves_of b) c result }
 {
     let offsets = Pair {
         x: words(a),

@@ -1,9 +1,9 @@
 // The forms of opening, and the choice between them.
 ghost use Rattle.std.specs.Prelude.{◌+◌, ◌-◌, ◌≤◌, ◌<◌, length};
 ghost use Rattle.aes.specs.Context.{Encrypts};
-ghost use Rattle.cba_mode.specs.Sets.{tagBytes};
+ghost use Rattle.cba_mode.specs.Sets.{tag_bytes};
 ghost use Rattle.cba_steps.specs.Endings.{Ends};
-ghost use Rattle.cba_sealing.specs.Calls.{firstBytes};
+ghost use Rattle.cba_sealing.specs.Calls.{first_bytes};
 ghost use Rattle.cba_opening.specs.Calls.{Opens, Tail, Try, Dec};
 
 use crate::blocks::open_blocks;
@@ -24,7 +24,7 @@ fn open_short(
 ) -> bool
     requires encrypts { Encrypts key.now ctx.now }
     requires opens { Opens p nonce.now ciphertext.now out.old }
-    requires ciphertext_len_bound { length ciphertext.now ≤ firstBytes p + tagBytes p.tau }
+    requires ciphertext_len_bound { length ciphertext.now ≤ first_bytes p + tag_bytes p.tau }
     ensures { Try key.now p nonce.now sum ciphertext.now out.old result out.new }
 {
     let t = p.tag_bytes();
@@ -74,7 +74,7 @@ fn open_long(
 ) -> bool
     requires encrypts { Encrypts key.now ctx.now }
     requires opens { Opens p nonce.now ciphertext.now out.old }
-    requires tau_in_bounds { firstBytes p + tagBytes p.tau < length ciphertext.now }
+    requires tau_in_bounds { first_bytes p + tag_bytes p.tau < length ciphertext.now }
     ensures { Try key.now p nonce.now sum ciphertext.now out.old result out.new }
 {
     let l = p.first_bytes();

@@ -2,8 +2,8 @@
 ghost use Rattle.std.specs.Prelude.{◌≡◌, true, ◌+◌, ◌≤◌, length};
 ghost use Rattle.octets.specs.Strings.{eqs};
 ghost use Rattle.aes.specs.Context.{Encrypts};
-ghost use Rattle.cba_mode.specs.Offsets.{lastBytes};
-ghost use Rattle.cba_sealing.specs.Calls.{maskedBy};
+ghost use Rattle.cba_mode.specs.Offsets.{last_bytes};
+ghost use Rattle.cba_sealing.specs.Calls.{masked_by};
 ghost use Rattle.cba_opening.specs.Calls.{JoinedPlain, OpenedRest, OpenedEnd};
 
 use aes_schedule::write;
@@ -30,7 +30,7 @@ fn joined_plain(
 fn joined_tag(e: [u8; 16], c: &[u8], tag: &[u8]) -> bool
     requires tag_in_bounds { length tag.now ≤ length c.now }
     requires c_len_bound { length c.now ≤ 16 }
-    ensures { result ≡ eqs (lastBytes (length tag.now) (maskedBy 0 e c.now)) tag.now }
+    ensures { result ≡ eqs (last_bytes (length tag.now) (masked_by 0 e c.now)) tag.now }
 {
     let n = c.len() - tag.len();
     let mut t = [0u8; 16];

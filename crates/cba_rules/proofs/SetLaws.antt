@@ -11,7 +11,7 @@ use lib.ListN.{length, get_or, take, replicate, length-append, length-replicate}
 use lib.Seq.{take_at}
 use Rattle.octets.proofs.Tests.{agree, same}
 use Rattle.fips197.specs.Schedule.{is_key}
-use Rattle.cba_mode.specs.Sets.{is_set, column, capacity, keyBytes, ell, Fits}
+use Rattle.cba_mode.specs.Sets.{is_set, column, capacity, key_bytes, ell, Fits}
 
 picked : Bool → ℕ
 picked true = 0
@@ -20,7 +20,7 @@ picked false = 1
 bounds : ℕ → List ℕ
 bounds n =
     (column 1 n - 127) ∷ (column 2 n - 48) ∷ (ell (column 1 n) (column 2 n) - 64) ∷ (ell (column 1 n) (column 2 n) % 32)
-    ∷ picked (eqb (keyBytes n) 16 || eqb (keyBytes n) 24 || eqb (keyBytes n) 32) ∷ (keyBytes n - 32) ∷ []
+    ∷ picked (eqb (key_bytes n) 16 || eqb (key_bytes n) 24 || eqb (key_bytes n) 32) ∷ (key_bytes n - 32) ∷ []
 
 zeros : ℕ → List ℕ
 zeros n = 0 ∷ 0 ∷ 0 ∷ 0 ∷ 0 ∷ 0 ∷ []
@@ -66,16 +66,16 @@ capacity-least (suc n) h =
     let e = ap (λ (l : List ℕ). get_or l 0 0) (same least (λ n. 0 ∷ []) 10 least-test n (omega arith)) in
     omega (arith, e)
 
-pub key-most : (set : ℕ) → is_set set ≡ true → keyBytes set ≤ 32
+pub key-most : (set : ℕ) → is_set set ≡ true → key_bytes set ≤ 32
 unfolding bounds zeros
 key-most set h = let e = ap (λ (l : List ℕ). get_or l 5 0) (held set h) in omega (arith, e)
 
 -- a key of the set's length, held with zeros after it up to 32 bytes
-pub held-key : (set : ℕ) (key : List ℕ) → is_set set ≡ true → length key ≡ keyBytes set →
-    let k = key ++ replicate (32 - length key) 0 in (length k ≡ 32) × (take (keyBytes set) k ≡ key)
+pub held-key : (set : ℕ) (key : List ℕ) → is_set set ≡ true → length key ≡ key_bytes set →
+    let k = key ++ replicate (32 - length key) 0 in (length k ≡ 32) × (take (key_bytes set) k ≡ key)
 held-key set key h l = (
   length-append key _ ∙ omega (arith, length-replicate {A = ℕ} (32 - length key) 0, key-most set h, l),
-  take_at key _ (keyBytes set) l,
+  take_at key _ (key_bytes set) l,
 )
 
 chosen : (x : Bool) → picked x ≡ 0 → x ≡ true
@@ -83,7 +83,7 @@ unfolding picked
 chosen true h = refl
 chosen false h = absurd (omega (arith, h))
 
-pub set_key : (set : ℕ) (key : List ℕ) → is_set set ≡ true → length key ≡ keyBytes set → is_key key ≡ true
+pub set_key : (set : ℕ) (key : List ℕ) → is_set set ≡ true → length key ≡ key_bytes set → is_key key ≡ true
 unfolding bounds zeros is_key
 set_key set key h l =
-    rw l (chosen (eqb (keyBytes set) 16 || eqb (keyBytes set) 24 || eqb (keyBytes set) 32) (ap (λ (l : List ℕ). get_or l 4 0) (held set h)))
+    rw l (chosen (eqb (key_bytes set) 16 || eqb (key_bytes set) 24 || eqb (key_bytes set) 32) (ap (λ (l : List ℕ). get_or l 4 0) (held set h)))

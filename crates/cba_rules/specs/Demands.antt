@@ -4,14 +4,14 @@
 use Rattle.std.specs.Prelude.{◌≡◌, true, List, ◌++◌, ◌⊎◌, ℕ, ◌+◌, ◌-◌, ◌^◌, ◌≤◌, eqb, length, take, drop, replicate}
 use Rattle.octets.specs.Strings.{Bytes, Octets}
 use Rattle.octets.specs.Count.{count}
-use Rattle.fips197.specs.Cipher.{cipher, invCipher}
-use Rattle.cba_mode.specs.Sets.{is_set, keyBytes, tagBits, capacity}
+use Rattle.fips197.specs.Cipher.{cipher, inv_cipher}
+use Rattle.cba_mode.specs.Sets.{is_set, key_bytes, tag_bits, capacity}
 use Rattle.cba_mode.specs.Seal.{ENC}
-use Rattle.cba_mode.specs.Open.{DEC, isFalse}
+use Rattle.cba_mode.specs.Open.{DEC, is_false}
 use Rattle.cba_mode.specs.Open.Opened.{opened, refused}
 use Rattle.answers.specs.Rows.{Decides}
-use Rattle.cba_rules.specs.Checks.{setTag, sealRows, open_rows}
-use Rattle.cba_rules.specs.Refusals.{sealing, opening, openAnswer, SealCall, OpenCall}
+use Rattle.cba_rules.specs.Checks.{set_tag, seal_rows, open_rows}
+use Rattle.cba_rules.specs.Refusals.{sealing, opening, open_answer, SealCall, OpenCall}
 
 -- ---- Demand 1: every bad input refused by its own number, in a fixed order, every other call accepted, and what each refusal leaves
 --
@@ -24,15 +24,15 @@ use Rattle.cba_rules.specs.Refusals.{sealing, opening, openAnswer, SealCall, Ope
 
 -- an answer r by the rows, and what is left of the output
 pub record SealRefusals (set : ℕ) (key N A M out : List ℕ) (r : ℕ) (out' : List ℕ) : Type 0 where
-  pub decides : Decides (sealRows set (length key) (length N) (length A) (length M) (length out)) r
+  pub decides : Decides (seal_rows set (length key) (length N) (length A) (length M) (length out)) r
   -- every refusal writes nothing
   pub untouched : (r ≡ 0 → ⊥) → out' ≡ out
 
 pub record OpenRefusals (set : ℕ) (key N A C out : List ℕ) (r : ℕ) (out' : List ℕ) : Type 0 where
-  pub decides : Decides (open_rows set (length key) (length N) (length A) (length C) (length out) (isFalse (opening set key N A C))) r
+  pub decides : Decides (open_rows set (length key) (length N) (length A) (length C) (length out) (is_false (opening set key N A C))) r
   -- every refusal but 8 writes nothing; 8 writes zeros over the first c − t bytes and leaves the others
   pub untouched : (r ≡ 0 → ⊥) → (r ≡ 8 → ⊥) → out' ≡ out
-  pub zeros : r ≡ 8 → out' ≡ replicate (length C - setTag set) 0 ++ drop (length C - setTag set) out
+  pub zeros : r ≡ 8 → out' ≡ replicate (length C - set_tag set) 0 ++ drop (length C - set_tag set) out
 
 pub record Demand1 : Type 0 where
   pub seals : (set : ℕ) (key N A M out : List ℕ) (r : ℕ) (out' : List ℕ) → SealCall set key N A M out r out' → SealRefusals set key N A M out r out'
@@ -44,28 +44,28 @@ pub record Demand1 : Type 0 where
 pub record AllBytes (key N A text : List ℕ) : Type 0 where
   pub key-bytes : Bytes key
   pub nonce-bytes : Bytes N
-  pub data-bytes : Bytes A
+  pub data_bytes : Bytes A
   pub text-bytes : Bytes text
 
 pub record Demand2 : Type 0 where
   pub seals : (set : ℕ) (key N A M out : List ℕ) (r : ℕ) (out' : List ℕ) → AllBytes key N A M → SealCall set key N A M out r out' → r ≡ 0 →
-      out' ≡ ENC (cipher key) (tagBits set) (capacity set) N A M ++ drop (length M + setTag set) out
+      out' ≡ ENC (cipher key) (tag_bits set) (capacity set) N A M ++ drop (length M + set_tag set) out
   -- the message is the first c − t bytes
   pub opens : (set : ℕ) (key N A C out : List ℕ) (r : ℕ) (out' : List ℕ) → AllBytes key N A C → OpenCall set key N A C out r out' → r ≡ 0 →
-      let n = length C - setTag set in
-      (DEC (cipher key) (invCipher key) (tagBits set) (capacity set) N A C ≡ opened (take n out')) × (drop n out' ≡ drop n out)
+      let n = length C - set_tag set in
+      (DEC (cipher key) (inv_cipher key) (tag_bits set) (capacity set) N A C ≡ opened (take n out')) × (drop n out' ≡ drop n out)
   pub refuses : (set : ℕ) (key N A C out : List ℕ) (r : ℕ) (out' : List ℕ) → OpenCall set key N A C out r out' → r ≡ 8 →
-      DEC (cipher key) (invCipher key) (tagBits set) (capacity set) N A C ≡ refused
+      DEC (cipher key) (inv_cipher key) (tag_bits set) (capacity set) N A C ≡ refused
 
 -- ---- Demand 3: how many strings open, to what, and which are refused as false
 
 -- a set, a key and a nonce of its lengths, and data within the limit
 pub record Given (set : ℕ) (key N A : List ℕ) : Type 0 where
   pub is-set : is_set set ≡ true
-  pub its-key : Octets (keyBytes set) key
-  pub its-nonce : Octets 12 N
-  pub its-data : Bytes A
-  pub data-limit : length A ≤ 4096
+  pub its_key : Octets (key_bytes set) key
+  pub its_nonce : Octets 12 N
+  pub its_data : Bytes A
+  pub data_limit : length A ≤ 4096
 
 -- any string of 0 to 65,536 bytes
 pub record Message (M : List ℕ) : Type 0 where
@@ -76,7 +76,7 @@ pub record Message (M : List ℕ) : Type 0 where
 pub record Decided (set : ℕ) (key N A C : List ℕ) (n r : ℕ) (out' : List ℕ) : Type 0 where
   -- (b) if it opens, the first c − t bytes of the output are a message, it is the message's sealing, and no other message's
   pub message : r ≡ 0 → Message (take n out')
-  pub its-sealing : r ≡ 0 → sealing set key N A (take n out') ≡ C
+  pub its_sealing : r ≡ 0 → sealing set key N A (take n out') ≡ C
   pub no_other : r ≡ 0 → (M : List ℕ) → Message M → sealing set key N A M ≡ C → M ≡ take n out'
   -- (c) it is refused as false exactly when no message seals to it, and else it opens
   pub false-none : r ≡ 8 → (M : List ℕ) → Message M → sealing set key N A M ≡ C → ⊥
@@ -86,17 +86,17 @@ pub record Decided (set : ℕ) (key N A C : List ℕ) (n r : ℕ) (out' : List �
 -- for every set, key, nonce and data, every length c from t to 65,536 + t and every output of at least c − t bytes
 pub record Demand3 : Type 0 where
   -- (a) the number of strings of c bytes that open
-  pub counted : (set : ℕ) (key N A : List ℕ) → Given set key N A → (c : ℕ) → setTag set ≤ c → c ≤ 65536 + setTag set →
-      (out : List ℕ) → c - setTag set ≤ length out → count c (λ C. eqb (openAnswer set key N A C out) 0) ≡ 256 ^ (c - setTag set)
+  pub counted : (set : ℕ) (key N A : List ℕ) → Given set key N A → (c : ℕ) → set_tag set ≤ c → c ≤ 65536 + set_tag set →
+      (out : List ℕ) → c - set_tag set ≤ length out → count c (λ C. eqb (open_answer set key N A C out) 0) ≡ 256 ^ (c - set_tag set)
   -- (b) and (c)
-  pub decided : (set : ℕ) (key N A : List ℕ) → Given set key N A → (c : ℕ) → setTag set ≤ c → c ≤ 65536 + setTag set →
-      (out : List ℕ) → c - setTag set ≤ length out → (C : List ℕ) → Octets c C →
-      (r : ℕ) (out' : List ℕ) → OpenCall set key N A C out r out' → Decided set key N A C (c - setTag set) r out'
+  pub decided : (set : ℕ) (key N A : List ℕ) → Given set key N A → (c : ℕ) → set_tag set ≤ c → c ≤ 65536 + set_tag set →
+      (out : List ℕ) → c - set_tag set ≤ length out → (C : List ℕ) → Octets c C →
+      (r : ℕ) (out' : List ℕ) → OpenCall set key N A C out r out' → Decided set key N A C (c - set_tag set) r out'
 
 -- The statement speaks of the calls: the sealing of a message is what plain sealing, which accepts it, writes, and the strings that
 -- are counted are those that plain opening answers with 0.
 pub record Speaks : Type 0 where
-  pub seals : (set : ℕ) (key N A M : List ℕ) → Given set key N A → Message M → (out : List ℕ) → length M + setTag set ≤ length out →
-      (r : ℕ) (out' : List ℕ) → SealCall set key N A M out r out' → (r ≡ 0) × (take (length M + setTag set) out' ≡ sealing set key N A M)
+  pub seals : (set : ℕ) (key N A M : List ℕ) → Given set key N A → Message M → (out : List ℕ) → length M + set_tag set ≤ length out →
+      (r : ℕ) (out' : List ℕ) → SealCall set key N A M out r out' → (r ≡ 0) × (take (length M + set_tag set) out' ≡ sealing set key N A M)
   pub opens : (set : ℕ) (key N A C out : List ℕ) (r : ℕ) (out' : List ℕ) → OpenCall set key N A C out r out' →
-      eqb (openAnswer set key N A C out) 0 ≡ eqb r 0
+      eqb (open_answer set key N A C out) 0 ≡ eqb r 0

@@ -2,11 +2,11 @@
 -- Assumes nothing.
 use Rattle.std.specs.Prelude.{Bool, true, ◌&&◌, List, [], ◌∷◌, ℕ, eqb, get_or}
 use Rattle.answers.specs.Rows.{Row, answer}
-use Rattle.cba_rules.specs.Checks.{sealRows, open_rows}
+use Rattle.cba_rules.specs.Checks.{seal_rows, open_rows}
 
 -- the answer, then set, key, nonce, data, message and room
-abbrev pub sealCalls : List (List ℕ)
-sealCalls =
+abbrev pub seal_calls : List (List ℕ)
+seal_calls =
     (0 ∷ 1 ∷ 16 ∷ 12 ∷ 4096 ∷ 65536 ∷ 65540 ∷ [])
     ∷ (0 ∷ 9 ∷ 24 ∷ 12 ∷ 0 ∷ 0 ∷ 8 ∷ [])
     ∷ (0 ∷ 10 ∷ 32 ∷ 12 ∷ 0 ∷ 1 ∷ 13 ∷ [])
@@ -27,8 +27,8 @@ sealCalls =
     ∷ []
 
 -- the answer, then set and key
-abbrev pub keyCalls : List (List ℕ)
-keyCalls =
+abbrev pub key_calls : List (List ℕ)
+key_calls =
     (0 ∷ 1 ∷ 16 ∷ [])
     ∷ (0 ∷ 9 ∷ 24 ∷ [])
     ∷ (0 ∷ 10 ∷ 32 ∷ [])
@@ -39,13 +39,13 @@ keyCalls =
     ∷ []
 
 -- by the rows of a call that is given no more
-unfoldable pub keysSo : (ℕ → ℕ → List Row) → List (List ℕ) → Bool
-keysSo rows [] = true
-keysSo rows (c ∷ cs) = eqb (answer (rows (get_or c 1 0) (get_or c 2 0))) (get_or c 0 0) && keysSo rows cs
+unfoldable pub keys_so : (ℕ → ℕ → List Row) → List (List ℕ) → Bool
+keys_so rows [] = true
+keys_so rows (c ∷ cs) = eqb (answer (rows (get_or c 1 0) (get_or c 2 0))) (get_or c 0 0) && keys_so rows cs
 
 -- sealing's again with a ciphertext, where a message seals to it
-abbrev pub openCalls : List (List ℕ)
-openCalls =
+abbrev pub open_calls : List (List ℕ)
+open_calls =
     (0 ∷ 1 ∷ 16 ∷ 12 ∷ 4096 ∷ 65540 ∷ 65536 ∷ [])
     ∷ (0 ∷ 9 ∷ 24 ∷ 12 ∷ 0 ∷ 8 ∷ 0 ∷ [])
     ∷ (0 ∷ 10 ∷ 32 ∷ 12 ∷ 0 ∷ 13 ∷ 1 ∷ [])
@@ -60,8 +60,8 @@ openCalls =
     ∷ []
 
 -- and where none does
-abbrev pub falseCalls : List (List ℕ)
-falseCalls =
+abbrev pub false_calls : List (List ℕ)
+false_calls =
     (8 ∷ 1 ∷ 16 ∷ 12 ∷ 0 ∷ 4 ∷ 0 ∷ [])
     ∷ (1 ∷ 0 ∷ 15 ∷ 11 ∷ 4097 ∷ 65541 ∷ 0 ∷ [])
     ∷ (2 ∷ 1 ∷ 15 ∷ 11 ∷ 4097 ∷ 65541 ∷ 0 ∷ [])
@@ -72,13 +72,13 @@ falseCalls =
     ∷ (7 ∷ 1 ∷ 16 ∷ 12 ∷ 4096 ∷ 65540 ∷ 0 ∷ [])
     ∷ []
 
-unfoldable pub sealsSo : List (List ℕ) → Bool
-sealsSo [] = true
-sealsSo (c ∷ cs) =
-    eqb (answer (sealRows (get_or c 1 0) (get_or c 2 0) (get_or c 3 0) (get_or c 4 0) (get_or c 5 0) (get_or c 6 0))) (get_or c 0 0) && sealsSo cs
+unfoldable pub seals_so : List (List ℕ) → Bool
+seals_so [] = true
+seals_so (c ∷ cs) =
+    eqb (answer (seal_rows (get_or c 1 0) (get_or c 2 0) (get_or c 3 0) (get_or c 4 0) (get_or c 5 0) (get_or c 6 0))) (get_or c 0 0) && seals_so cs
 
-unfoldable pub opensSo : Bool → List (List ℕ) → Bool
-opensSo no-message [] = true
-opensSo no-message (c ∷ cs) =
+unfoldable pub opens_so : Bool → List (List ℕ) → Bool
+opens_so no-message [] = true
+opens_so no-message (c ∷ cs) =
     eqb (answer (open_rows (get_or c 1 0) (get_or c 2 0) (get_or c 3 0) (get_or c 4 0) (get_or c 5 0) (get_or c 6 0) no-message)) (get_or c 0 0)
-    && opensSo no-message cs
+    && opens_so no-message cs

@@ -13,9 +13,9 @@ use Rattle.octets.specs.Xor.{xors}
 use Rattle.octets.specs.Blocks.{block}
 use Rattle.octets.proofs.Parts.{to_end, then, size_of}
 use Rattle.aes_schedule.specs.Words.{block_of}
-use Rattle.cba_steps.specs.Halves.{halvesOf}
+use Rattle.cba_steps.specs.Halves.{halves_of}
 use Rattle.cba_mode.specs.Offsets.{F, offset}
-use Rattle.cba_mode.specs.Seal.{checksum, cipherBlocks}
+use Rattle.cba_mode.specs.Seal.{checksum, cipher_blocks}
 use Rattle.cba_mode.proofs.Undoing.{checksum-prefix}
 use Rattle.cba_sealing.specs.declared.blocks.Running.{Running}
 use Rattle.cba_sealing.specs.Calls.{through, summed, Passed}
@@ -30,12 +30,12 @@ offset-more Δ i (suc n) = simp unary_clauses (ap (F 2 2) (offset-more Δ i n))
 block_more : (M : List ℕ) (i n : ℕ) → block 16 (drop (16 * i) M) n ≡ block 16 M (i + n)
 block_more M i n = ap (take 16) (drop-drop (16 * n) (16 * i) M ∙ ap (λ (j : ℕ). drop j M) {x = 16 * i + 16 * n} {y = 16 * (i + n)} (omega arith))
 
-blocks_more : (E : List ℕ → List ℕ) (Δ M : List ℕ) (i n : ℕ) → cipherBlocks E Δ M i ++ cipherBlocks E (offset Δ i) (drop (16 * i) M) n ≡ cipherBlocks E Δ M (i + n)
-unfolding cipherBlocks offset
-blocks_more E Δ M i zero = simp unary_clauses (append-nil (cipherBlocks E Δ M i))
+blocks_more : (E : List ℕ → List ℕ) (Δ M : List ℕ) (i n : ℕ) → cipher_blocks E Δ M i ++ cipher_blocks E (offset Δ i) (drop (16 * i) M) n ≡ cipher_blocks E Δ M (i + n)
+unfolding cipher_blocks offset
+blocks_more E Δ M i zero = simp unary_clauses (append-nil (cipher_blocks E Δ M i))
 blocks_more E Δ M i (suc n) =
     simp unary_clauses
-    (sym (append_assoc (cipherBlocks E Δ M i) (cipherBlocks E (offset Δ i) (drop (16 * i) M) n) _)
+    (sym (append_assoc (cipher_blocks E Δ M i) (cipher_blocks E (offset Δ i) (drop (16 * i) M) n) _)
     ∙ ap₂ ◌++◌ (blocks_more E Δ M i n) (ap₂ (through E) (ap (F 2 2) (offset-more Δ i n)) (block_more M i n)))
 
 sums-more : (M : List ℕ) (i n : ℕ) → summed (checksum M i) (drop (16 * i) M) n ≡ checksum M (i + n)
@@ -50,13 +50,13 @@ through-block E Δ m eo ei ee er = er ∙ ap₂ xors (ee ∙ ap E (ei ∙ ap (xo
 -- ---- one block, and two, over the first bytes of d
 
 module _ (E : List ℕ → List ℕ) (σ Δ M d : List ℕ) (r : Running) where
-  pub passed-one : (c out : List ℕ) → halvesOf r.offset ≡ F 2 2 Δ → block_of r.sum ≡ σ → c ≡ through E (F 2 2 Δ) (take 16 M) → length c ≡ 16 → out ≡ over c d → Passed E σ Δ M d 1 r out
-  unfolding offset cipherBlocks
+  pub passed-one : (c out : List ℕ) → halves_of r.offset ≡ F 2 2 Δ → block_of r.sum ≡ σ → c ≡ through E (F 2 2 Δ) (take 16 M) → length c ≡ 16 → out ≡ over c d → Passed E σ Δ M d 1 r out
+  unfolding offset cipher_blocks
   passed-one c out eΔ eS ec lc eo = record { offset-is = eΔ; sum_is = eS; written = eo ∙ ap₂ (λ (x : List ℕ) (n : ℕ). x ++ drop n d) ec lc }
 
-  pub passed-two : (c c' out : List ℕ) → halvesOf r.offset ≡ F 2 2 (F 2 2 Δ) → block_of r.sum ≡ σ →
+  pub passed-two : (c c' out : List ℕ) → halves_of r.offset ≡ F 2 2 (F 2 2 Δ) → block_of r.sum ≡ σ →
       c ≡ through E (F 2 2 Δ) (take 16 M) → c' ≡ through E (F 2 2 (F 2 2 Δ)) (take 16 (drop 16 M)) → length (c ++ c') ≡ 32 → out ≡ over (c ++ c') d → Passed E σ Δ M d 2 r out
-  unfolding offset cipherBlocks
+  unfolding offset cipher_blocks
   passed-two c c' out eΔ eS ec ec' l eo =
       record { offset-is = eΔ; sum_is = eS; written = eo ∙ ap₂ (λ (x : List ℕ) (n : ℕ). x ++ drop n d) (ap₂ ◌++◌ ec ec') l }
 
@@ -68,20 +68,20 @@ pub record Going (E : List ℕ → List ℕ) (σ : ℕ → List ℕ) (Δ M d : L
   pub long : length out ≡ length d
 
 module _ {E : List ℕ → List ℕ} {σ : ℕ → List ℕ} {M d : List ℕ} {k : ℕ} where
-  pub going-none : (s : Running) → block_of s.sum ≡ σ 0 → Going E σ (halvesOf s.offset) M d k 0 s d
-  unfolding offset cipherBlocks
-  going-none s e = record { within = omega arith; passed = record { offset-is = refl; sum_is = e; written = refl }; long = refl }
+  pub going_none : (s : Running) → block_of s.sum ≡ σ 0 → Going E σ (halves_of s.offset) M d k 0 s d
+  unfolding offset cipher_blocks
+  going_none s e = record { within = omega arith; passed = record { offset-is = refl; sum_is = e; written = refl }; long = refl }
 
   module _ {Δ : List ℕ} {i : ℕ} {s : Running} {out : List ℕ} (v : Going E σ Δ M d k i s out) where
     -- n blocks more: last is what the callee says of the parts that it was lent
     pub goes_on : (n : ℕ) {r : Running} {S last : List ℕ} → let M' = take (length M - 16 * i) (drop (16 * i) M) in
         let out' = take (16 * i) out ++ (last ++ drop (length out - 16 * i) (drop (16 * i) out)) in
         i + n ≤ k → 16 * k ≤ length d →
-        Passed E S (halvesOf s.offset) M' (take (length out - 16 * i) (drop (16 * i) out)) n r last →
+        Passed E S (halves_of s.offset) M' (take (length out - 16 * i) (drop (16 * i) out)) n r last →
         length last ≡ length (take (length out - 16 * i) (drop (16 * i) out)) → length out' ≡ length out → S ≡ σ (i + n) → Going E σ Δ M d k (i + n) r out'
     goes_on n {r} {S} {last} h hd w lw lo eS =
         let M' = take (length M - 16 * i) (drop (16 * i) M) in
-        let eb = ap₂ (λ (δ m : List ℕ). cipherBlocks E δ m n) v.passed.offset-is (to_end M (16 * i)) in
+        let eb = ap₂ (λ (δ m : List ℕ). cipher_blocks E δ m n) v.passed.offset-is (to_end M (16 * i)) in
         let all : 16 * i + 16 * n ≡ 16 * (i + n) = omega arith in
         record {
           within = h;
@@ -90,8 +90,8 @@ module _ {E : List ℕ → List ℕ} {σ : ℕ → List ℕ} {M d : List ℕ} {k
                 offset-is = w.offset-is ∙ ap (λ (δ : List ℕ). offset δ n) v.passed.offset-is ∙ offset-more Δ i n;
                 sum_is = w.sum_is ∙ eS;
                 written =
-                    then d (cipherBlocks E Δ M i) out (cipherBlocks E (halvesOf s.offset) M' n) last (16 * i) (16 * n) v.passed.written v.long (omega arith) w.written lw
-                    ∙ ap₂ (λ (x : List ℕ) (j : ℕ). x ++ drop j d) (ap (λ (x : List ℕ). cipherBlocks E Δ M i ++ x) eb ∙ blocks_more E Δ M i n) all;
+                    then d (cipher_blocks E Δ M i) out (cipher_blocks E (halves_of s.offset) M' n) last (16 * i) (16 * n) v.passed.written v.long (omega arith) w.written lw
+                    ∙ ap₂ (λ (x : List ℕ) (j : ℕ). x ++ drop j d) (ap (λ (x : List ℕ). cipher_blocks E Δ M i ++ x) eb ∙ blocks_more E Δ M i n) all;
               };
           long = lo ∙ v.long;
         }
@@ -105,20 +105,20 @@ pub sum-none : (M : List ℕ) → replicate 16 0 ≡ checksum M 0
 unfolding checksum
 sum-none M = refl
 
-pub sum-in : {E : List ℕ → List ℕ} {Δ M d : List ℕ} {k i : ℕ} {s : Running} {out : List ℕ} → Going E (checksum M) Δ M d k i s out → (n : ℕ) →
+pub sum_in : {E : List ℕ → List ℕ} {Δ M d : List ℕ} {k i : ℕ} {s : Running} {out : List ℕ} → Going E (checksum M) Δ M d k i s out → (n : ℕ) →
     summed (block_of s.sum) (take (length M - 16 * i) (drop (16 * i) M)) n ≡ checksum M (i + n)
-sum-in {E} {Δ} {M} {d} {k} {i} v n = ap₂ (λ (x m : List ℕ). summed x m n) v.passed.sum_is (to_end M (16 * i)) ∙ sums-more M i n
+sum_in {E} {Δ} {M} {d} {k} {i} v n = ap₂ (λ (x m : List ℕ). summed x m n) v.passed.sum_is (to_end M (16 * i)) ∙ sums-more M i n
 
-abbrev pub sumOut : (List ℕ → List ℕ) → List ℕ → List ℕ → ℕ → List ℕ
-sumOut D Δ C n = checksum (cipherBlocks D Δ C n) n
+abbrev pub sum_out : (List ℕ → List ℕ) → List ℕ → List ℕ → ℕ → List ℕ
+sum_out D Δ C n = checksum (cipher_blocks D Δ C n) n
 
-pub sum-out : {D : List ℕ → List ℕ} {Δ C d : List ℕ} {k i : ℕ} {s : Running} {out : List ℕ} → Going D (sumOut D Δ C) Δ C d k i s out → 16 * k ≤ length d → (n : ℕ) →
-    summed (block_of s.sum) (cipherBlocks D (halvesOf s.offset) (take (length C - 16 * i) (drop (16 * i) C)) n) n ≡ sumOut D Δ C (i + n)
+pub sum-out : {D : List ℕ → List ℕ} {Δ C d : List ℕ} {k i : ℕ} {s : Running} {out : List ℕ} → Going D (sum_out D Δ C) Δ C d k i s out → 16 * k ≤ length d → (n : ℕ) →
+    summed (block_of s.sum) (cipher_blocks D (halves_of s.offset) (take (length C - 16 * i) (drop (16 * i) C)) n) n ≡ sum_out D Δ C (i + n)
 sum-out {D} {Δ} {C} {d} {k} {i} {s} {out} v hd n =
-    let P = cipherBlocks D Δ C i in
-    let Q = cipherBlocks D (offset Δ i) (drop (16 * i) C) n in
+    let P = cipher_blocks D Δ C i in
+    let Q = cipher_blocks D (offset Δ i) (drop (16 * i) C) n in
     let size : length P ≡ 16 * i = size_of d P out (16 * i) v.passed.written v.long (omega (arith, v.within)) in
     ap₂ (λ (x m : List ℕ). summed x m n)
     (v.passed.sum_is ∙ sym (checksum-prefix P Q i (omega arith)))
-    (ap₂ (λ (δ m : List ℕ). cipherBlocks D δ m n) v.passed.offset-is (to_end C (16 * i)) ∙ sym (drop_at P Q (16 * i) size))
+    (ap₂ (λ (δ m : List ℕ). cipher_blocks D δ m n) v.passed.offset-is (to_end C (16 * i)) ∙ sym (drop_at P Q (16 * i) size))
     ∙ sums-more (P ++ Q) i n ∙ ap (λ (x : List ℕ). checksum x (i + n)) (blocks_more D Δ C i n)

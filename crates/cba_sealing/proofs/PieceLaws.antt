@@ -6,10 +6,10 @@ use Prim.Native.Nat.{ℕ, zero, suc, ◌-◌, ◌<◌, ◌≤◌}
 use native.Mathlib.Omega.{arith}
 use lib.ListN.{length, take, drop, get_or, replicate, length-take}
 use Rattle.octets.specs.Strings.{table}
-use Rattle.octets.proofs.Strings.{table-getD}
-use Rattle.octets.proofs.Parts.{put-end}
-use Rattle.aes_schedule.specs.Words.{wordAt}
-use Rattle.cba_mode.specs.Sets.{tagBytes}
+use Rattle.octets.proofs.Strings.{table-get_or}
+use Rattle.octets.proofs.Parts.{put_end}
+use Rattle.aes_schedule.specs.Words.{word_at}
+use Rattle.cba_mode.specs.Sets.{tag_bytes}
 use Rattle.cba_mode.specs.Offsets.{leading}
 
 -- a part from the front that is there
@@ -17,11 +17,11 @@ pub take-size : (n : ℕ) (s : List ℕ) → n ≤ length s → length (take n s
 take-size n s h = length-take n s ∙ omega arith
 
 -- a tag is shorter than a block
-pub tag_fits : {τ : ℕ} → τ < 128 → tagBytes τ ≤ 16
+pub tag_fits : {τ : ℕ} → τ < 128 → tag_bytes τ ≤ 16
 tag_fits h = omega arith
 
-pub tag-taken : (τ : ℕ) (e : List ℕ) → τ < 128 → length e ≡ 16 → length (take (tagBytes τ) e) ≡ tagBytes τ
-tag-taken τ e h l = take-size (tagBytes τ) e (omega arith)
+pub tag_taken : (τ : ℕ) (e : List ℕ) → τ < 128 → length e ≡ 16 → length (take (tag_bytes τ) e) ≡ tag_bytes τ
+tag_taken τ e h l = take-size (tag_bytes τ) e (omega arith)
 
 take-replicate : (k n x : ℕ) → k ≤ n → take k (replicate n x) ≡ replicate k x
 take-replicate zero n x h = refl
@@ -29,15 +29,15 @@ take-replicate (suc k) zero x h = absurd (omega arith)
 take-replicate (suc k) (suc n) x h = ap (λ (s : List ℕ). x ∷ s) (take-replicate k n x (omega arith))
 
 -- zeros before a string, by putting it at the end of zeros
-pub right-put : (s last : List ℕ) → length s ≤ 16 →
+pub right_put : (s last : List ℕ) → length s ≤ 16 →
     last ≡ s ++ drop (length s) (take (16 - (16 - length s)) (drop (16 - length s) (replicate 16 0))) →
     take (16 - length s) (replicate 16 0) ++ (last ++ drop (16 - (16 - length s)) (drop (16 - length s) (replicate 16 0))) ≡ leading 16 s
 unfolding leading
-right-put s last h e =
-    put-end (replicate 16 0) (16 - length s) s last (omega arith) e
+right_put s last h e =
+    put_end (replicate 16 0) (16 - length s) s last (omega arith) e
     ∙ ap (λ (z : List ℕ). z ++ s) (take-replicate (16 - length s) 16 0 (omega arith))
 
 -- three words of a string
-pub three-words : (s p q u : List ℕ) → length s ≡ 12 → p ≡ wordAt s 0 → q ≡ wordAt s 4 → u ≡ wordAt s 8 → p ++ (q ++ u) ≡ s
+pub three-words : (s p q u : List ℕ) → length s ≡ 12 → p ≡ word_at s 0 → q ≡ word_at s 4 → u ≡ word_at s 8 → p ++ (q ++ u) ≡ s
 unfolding table
-three-words s p q u l ep eq eu = rw (ep, eq, eu) (ap (table (λ k. get_or s k 0)) (sym l) ∙ table-getD s)
+three-words s p q u l ep eq eu = rw (ep, eq, eu) (ap (table (λ k. get_or s k 0)) (sym l) ∙ table-get_or s)

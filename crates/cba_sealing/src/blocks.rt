@@ -4,7 +4,7 @@ ghost use Rattle.octets.specs.Strings.{over};
 ghost use Rattle.fips197.specs.Cipher.{cipher};
 ghost use Rattle.aes_schedule.specs.Words.{block_of};
 ghost use Rattle.aes.specs.Context.{Encrypts};
-ghost use Rattle.cba_steps.specs.Halves.{halvesOf};
+ghost use Rattle.cba_steps.specs.Halves.{halves_of};
 ghost use Rattle.cba_sealing.specs.Calls.{through, Through, SealedMore, SealedBlocks};
 
 use aes::{Pair, xor_pair};
@@ -21,7 +21,7 @@ pub struct Running {
 // C = E(M ⊕ Δ) ⊕ Δ.
 fn sealed_block(key: &[u8], ctx: &aes::Context, m: Words, h: Halves) -> Words
     requires { Encrypts key.now ctx.now }
-    ensures { block_of result ≡ through (cipher key.now) (halvesOf h) (block_of m) }
+    ensures { block_of result ≡ through (cipher key.now) (halves_of h) (block_of m) }
 {
     let offset = words(h);
     let e = aes::encrypt(key, ctx, write(xor_words(m, offset)));
@@ -31,7 +31,7 @@ fn sealed_block(key: &[u8], ctx: &aes::Context, m: Words, h: Halves) -> Words
 // The same of two blocks, each with its own offset.
 fn sealed_pair(key: &[u8], ctx: &aes::Context, m: Pair, a: Halves, b: Halves) -> Pair
     requires { Encrypts key.now ctx.now }
-    ensures { Through (cipher key.now) (halvesOf a) (halvesOf b) m result }
+    ensures { Through (cipher key.now) (halves_of a) (halves_of b) m result }
 {
     let offsets = Pair {
         x: words(a),

@@ -5,8 +5,8 @@ ghost use Rattle.fips197.specs.Cipher.{cipher};
 ghost use Rattle.aes.specs.Context.{Encrypts};
 ghost use Rattle.cba_mode.specs.Offsets.{F, pad};
 ghost use Rattle.cba_steps.specs.Endings.{Ends};
-ghost use Rattle.cba_steps.specs.Halves.{halvesOf};
-ghost use Rattle.cba_sealing.specs.Calls.{Seals, firstBytes, Tail, Enc};
+ghost use Rattle.cba_steps.specs.Halves.{halves_of};
+ghost use Rattle.cba_sealing.specs.Calls.{Seals, first_bytes, Tail, Enc};
 
 use crate::begin::{cover, full_tag};
 use crate::blocks::full_blocks;
@@ -23,7 +23,7 @@ pub fn short_tag(
     c: &[u8],
 ) -> [u8; 16]
     requires { Encrypts key.now ctx.now }
-    ensures { result ≡ cipher key.now (xors (xors data_tag (pad c.now)) (F 3 3 (halvesOf offset))) }
+    ensures { result ≡ cipher key.now (xors (xors data_tag (pad c.now)) (F 3 3 (halves_of offset))) }
 {
     let x = octets::xor_block(data_tag, pad(c));
     aes::encrypt(key, ctx, octets::xor_block(x, step_block(3, 3, offset)))
@@ -41,7 +41,7 @@ fn seal_short(
 )
     requires encrypts { Encrypts key.now ctx.now }
     requires seals { Seals p nonce.now message.now out.old }
-    requires message_len_bound { length message.now ≤ firstBytes p }
+    requires message_len_bound { length message.now ≤ first_bytes p }
     ensures { Enc key.now p nonce.now sum message.now out.old out.new }
 {
     let b = cover(key, ctx, p, nonce, sum, message, out);
@@ -90,7 +90,7 @@ fn seal_long(
 )
     requires encrypts { Encrypts key.now ctx.now }
     requires seals { Seals p nonce.now message.now out.old }
-    requires p_in_bounds { firstBytes p < length message.now }
+    requires p_in_bounds { first_bytes p < length message.now }
     ensures { Enc key.now p nonce.now sum message.now out.old out.new }
 {
     let l = p.first_bytes();

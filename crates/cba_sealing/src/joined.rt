@@ -2,8 +2,8 @@
 ghost use Rattle.std.specs.Prelude.{◌≡◌, ◌+◌, ◌≤◌, length};
 ghost use Rattle.fips197.specs.Cipher.{cipher};
 ghost use Rattle.aes.specs.Context.{Encrypts};
-ghost use Rattle.cba_mode.specs.Seal.{joinedLast};
-ghost use Rattle.cba_steps.specs.Halves.{halvesOf};
+ghost use Rattle.cba_mode.specs.Seal.{joined_last};
+ghost use Rattle.cba_steps.specs.Halves.{halves_of};
 ghost use Rattle.cba_sealing.specs.Calls.{JoinedBlock, JoinedEnd};
 
 use crate::blocks::Running;
@@ -35,7 +35,7 @@ fn joined_block(
 // C_m, from the sum and C_{m-1}.
 fn joined_last(key: &[u8], ctx: &aes::Context, offset: Halves, sum: [u8; 16], c: &[u8]) -> [u8; 16]
     requires { Encrypts key.now ctx.now }
-    ensures { result ≡ joinedLast (cipher key.now) (halvesOf offset) sum c.now }
+    ensures { result ≡ joined_last (cipher key.now) (halves_of offset) sum c.now }
 {
     let x = octets::xor_block(pad(c), step_block(3, 3, offset));
     octets::xor_block(sum, aes::encrypt(key, ctx, x))

@@ -1,7 +1,7 @@
 // Pieces that the forms of sealing are made of.
 ghost use Rattle.std.specs.Prelude.{◌≡◌, ◌++◌, ◌∷◌, ◌+◌, ◌≤◌, length, drop};
 ghost use Rattle.cba_mode.specs.Offsets.{leading};
-ghost use Rattle.cba_sealing.specs.Calls.{maskedBy};
+ghost use Rattle.cba_sealing.specs.Calls.{masked_by};
 
 use aes_schedule::{Words, join, word_at, write};
 use cba_steps::Parameters;
@@ -25,7 +25,7 @@ pub fn nonce_block(p: Parameters, nonce: &[u8]) -> [u8; 16]
 pub fn mask(block: [u8; 16], at: usize, s: &[u8], out: &mut [u8])
     requires s_bound { at + length s.now ≤ 16 }
     requires s_in_bounds { length s.now ≤ length out.old }
-    ensures { out.new ≡ maskedBy at block s.now ++ drop (length s.now) out.old }
+    ensures { out.new ≡ masked_by at block s.now ++ drop (length s.now) out.old }
 {
     let mut i = 0;
     while i < s.len() {

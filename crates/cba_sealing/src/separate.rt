@@ -2,9 +2,9 @@
 ghost use Rattle.std.specs.Prelude.{◌≡◌, ◌+◌, ◌≤◌, length};
 ghost use Rattle.fips197.specs.Cipher.{cipher};
 ghost use Rattle.aes.specs.Context.{Encrypts};
-ghost use Rattle.cba_mode.specs.Seal.{lastOffset};
-ghost use Rattle.cba_steps.specs.Halves.{halvesOf};
-ghost use Rattle.cba_sealing.specs.Calls.{LastBlock, tagBlock, SeparateEnd};
+ghost use Rattle.cba_mode.specs.Seal.{last_offset};
+ghost use Rattle.cba_steps.specs.Halves.{halves_of};
+ghost use Rattle.cba_sealing.specs.Calls.{LastBlock, tag_block, SeparateEnd};
 
 use crate::blocks::Running;
 use crate::pieces::{mask, right_aligned};
@@ -32,7 +32,7 @@ pub fn last_block(
 
 // The offset of the tag, after a last block of n bytes.
 fn last_offset(offset: Halves, n: usize) -> [u8; 16]
-    ensures { result ≡ lastOffset (halvesOf offset) n }
+    ensures { result ≡ last_offset (halves_of offset) n }
 {
     let d = step(2, 4, offset);
     if n < 16 {
@@ -52,7 +52,7 @@ pub fn tag_block(
 ) -> [u8; 16]
     requires encrypts { Encrypts key.now ctx.now }
     requires tag_len_bound { length tag.now ≤ 16 }
-    ensures { result ≡ tagBlock (cipher key.now) (halvesOf offset) tag.now sum last.now }
+    ensures { result ≡ tag_block (cipher key.now) (halves_of offset) tag.now sum last.now }
 {
     let s = octets::xor_block(sum, pad(last));
     let x = octets::xor_block(s, right_aligned(tag));

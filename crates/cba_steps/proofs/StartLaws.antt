@@ -10,7 +10,7 @@ use lib.ListN.{length, get_or, replicate, length-append, get_or-append, get_or-r
 use lib.Seq.{get_or-append-add, get_or-append_seam}
 use Rattle.octets.specs.Strings.{table}
 use Rattle.octets.specs.Numbers.{number, digits}
-use Rattle.octets.proofs.Strings.{bytes-append, table-take}
+use Rattle.octets.proofs.Strings.{bytes_append, table-take}
 use Rattle.octets.proofs.Numbers.{length_digits, bytes-digits, number_digits, digits_number, number_append}
 use Rattle.cba_mode.specs.Offsets.{F, ones, rotated, start, pad}
 
@@ -26,54 +26,54 @@ pub digits-pair : (u v : ℕ) → u < 2 ^ 64 → v < 2 ^ 64 → digits 8 u ++ di
 digits-pair u v h k =
     let s = digits 8 u ++ digits 8 v in
     let n : length s ≡ 16 = length-append (digits 8 u) (digits 8 v) ∙ omega (arith, length_digits 8 u, length_digits 8 v) in
-    sym (digits_number s (bytes-append (digits 8 u) (digits 8 v) (bytes-digits 8 u) (bytes-digits 8 v)))
+    sym (digits_number s (bytes_append (digits 8 u) (digits 8 v) (bytes-digits 8 u) (bytes-digits 8 v)))
     ∙ ap₂ digits n (number-pair u v h k)
 
 -- ---- turning two halves, where P Q = 2^64
 
 module _ (P Q : ℕ) (h : P * Q ≡ 2 ^ 64) where
-  pub left-pos : 0 < P
-  left-pos = go P h
+  pub left_pos : 0 < P
+  left_pos = go P h
     where
       go : (p : ℕ) → p * Q ≡ 2 ^ 64 → 0 < p
       go zero e = absurd (omega (arith, e, zero-mul Q))
       go (suc p) e = omega arith
 
-  pub right-pos : 0 < Q
-  right-pos = go Q h
+  pub right_pos : 0 < Q
+  right_pos = go Q h
     where
       go : (q : ℕ) → P * q ≡ 2 ^ 64 → 0 < q
       go zero e = absurd (omega (arith, e))
       go (suc q) e = omega arith
 
   pub low_fits : (b : ℕ) → b % P * Q < 2 ^ 64
-  low_fits b = rw (← h) (mul-lt-mul_of_pos_right (mod-lt b left-pos) right-pos)
+  low_fits b = rw (← h) (mul-lt-mul_of_pos_right (mod-lt b left_pos) right_pos)
 
   pub half-fits : (a b : ℕ) → a < 2 ^ 64 → a / P + b % P * Q < 2 ^ 64
   half-fits a b k =
-      let q : a / P < Q = (div-lt_iff_lt-mul left-pos).1 (omega (arith, h, mul_comm Q P)) in
-      omega (arith, h, digits_lt (mod-lt b left-pos) q)
+      let q : a / P < Q = (div-lt_iff_lt-mul left_pos).1 (omega (arith, h, mul_comm Q P)) in
+      omega (arith, h, digits_lt (mod-lt b left_pos) q)
 
   turned : (a b : ℕ) → (a / P + b % P * Q) * 2 ^ 64 + (b / P + a % P * Q) ≡ (a * 2 ^ 64 + b) / P + (a * 2 ^ 64 + b) % P * (Q * 2 ^ 64)
   turned a b =
       let e : a * 2 ^ 64 + b ≡ a * Q * P + b = omega (arith, h, ap (λ (n : ℕ). a * n) (sym h)) in
-      let q : (a * 2 ^ 64 + b) / P ≡ a * Q + b / P = ap (λ (n : ℕ). n / P) e ∙ mul-add-div_right left-pos (a * Q) b in
+      let q : (a * 2 ^ 64 + b) / P ≡ a * Q + b / P = ap (λ (n : ℕ). n / P) e ∙ mul-add-div_right left_pos (a * Q) b in
       let r : (a * 2 ^ 64 + b) % P ≡ b % P = ap (λ (n : ℕ). n % P) e ∙ mul-add-mod_self_right (a * Q) P b in
       let s : a * Q ≡ a / P * 2 ^ 64 + a % P * Q =
       ap (λ (n : ℕ). n * Q) (sym (div-add-mod' a P)) ∙ add-mul (a / P * P) (a % P) Q
       ∙ ap (λ (n : ℕ). n + a % P * Q) (mul_assoc (a / P) P Q ∙ ap (λ (n : ℕ). a / P * n) h) in
       sym (ap₂ (λ (x y : ℕ). x + y * (Q * 2 ^ 64)) q r ∙ omega (arith, s))
 
-  pub rotate-halves : (a b : ℕ) → a < 2 ^ 64 → b < 2 ^ 64 →
+  pub rotate_halves : (a b : ℕ) → a < 2 ^ 64 → b < 2 ^ 64 →
       digits 8 (a / P + b % P * Q) ++ digits 8 (b / P + a % P * Q) ≡ digits 16 ((a * 2 ^ 64 + b) / P + (a * 2 ^ 64 + b) % P * (Q * 2 ^ 64))
-  rotate-halves a b u v = digits-pair _ _ (half-fits a b u) (half-fits b a v) ∙ ap (digits 16) (turned a b)
+  rotate_halves a b u v = digits-pair _ _ (half-fits a b u) (half-fits b a v) ∙ ap (digits 16) (turned a b)
 
 -- ---- the first offset: w is n, one of 0, 32, 64
 
-pub start-by : (n A B : ℕ) {w Y : ℕ} {R s z : List ℕ} → A < 2 ^ 64 → B < 2 ^ 64 → digits 8 A ++ digits 8 B ≡ R →
+pub start_by : (n A B : ℕ) {w Y : ℕ} {R s z : List ℕ} → A < 2 ^ 64 → B < 2 ^ 64 → digits 8 A ++ digits 8 B ≡ R →
     w ≡ n → s ≡ F 2 2 z → z ≡ digits 16 (rotated (n / 2 + 1) Y) → Y ≡ ones n (A * 2 ^ 64 + B) → s ≡ start R w
 unfolding start
-start-by n A B {R = R} h k i e p q r =
+start_by n A B {R = R} h k i e p q r =
     let y = r ∙ ap (ones n) (sym (number-pair A B h k) ∙ ap number i) in
     p ∙ ap (F 2 2) (q ∙ ap (λ (y : ℕ). digits 16 (rotated (n / 2 + 1) y)) y) ∙ ap (start R) (sym e)
 
@@ -84,8 +84,8 @@ ones_none A B = omega arith
 pub ones-some : (A B : ℕ) → A * 2 ^ 64 + (B / 0x400000000 * 0x400000000 + 0x3ffffffff) ≡ ones 32 (A * 2 ^ 64 + B)
 ones-some A B = omega arith
 
-pub ones-many : (A B : ℕ) → B < 2 ^ 64 → (A / 4 * 4 + 3) * 2 ^ 64 + 0xffffffffffffffff ≡ ones 64 (A * 2 ^ 64 + B)
-ones-many A B h = omega arith
+pub ones_many : (A B : ℕ) → B < 2 ^ 64 → (A / 4 * 4 + 3) * 2 ^ 64 + 0xffffffffffffffff ≡ ones 64 (A * 2 ^ 64 + B)
+ones_many A B h = omega arith
 
 -- ---- padding, byte by byte
 

@@ -1,7 +1,7 @@
 -- How what follows the first ℓ bits of a message ends. Lengths are in bytes.
 -- Assumes nothing.
 use Rattle.std.specs.Prelude.{◌≡◌, Bool, true, false, ℕ, suc, ◌+◌, ◌-◌, ◌*◌, ◌/◌, ◌<◌, ◌≤◌}
-use Rattle.cba_mode.specs.Forms.{Form, sealForm}
+use Rattle.cba_mode.specs.Forms.{Form, seal_form}
 use Rattle.cba_mode.specs.Forms.Form.{joined, separate}
 use Rattle.cba_steps.specs.declared.endings.Ending.{Ending}
 
@@ -24,5 +24,5 @@ pub record Ends (j : Bool) (k t n : ℕ) : Type 0 where
 
 -- the ending of a message of n bytes, of which l come first, with a tag of t bytes
 pub record Decided (l t n : ℕ) (e : Ending) : Type 0 where
-  pub form : sealForm l t n ≡ form_of e.joined
+  pub form : seal_form l t n ≡ form_of e.joined
   pub ends : Ends e.joined e.blocks t (n - l)

@@ -4,5 +4,5 @@ use Rattle.std.specs.Prelude.{List, ◌++◌, ℕ}
 use Rattle.octets.specs.Numbers.{digits}
 use Rattle.cba_steps.specs.declared.offsets.Halves.{Halves}
 
-abbrev pub halvesOf : Halves → List ℕ
-halvesOf h = digits 8 h.a ++ digits 8 h.b
+abbrev pub halves_of : Halves → List ℕ
+halves_of h = digits 8 h.a ++ digits 8 h.b

@@ -4,8 +4,8 @@ ghost use Rattle.octets.specs.Numbers.{digits};
 ghost use Rattle.octets.specs.Xor.{xors};
 ghost use Rattle.fips197.specs.Cipher.{cipher};
 ghost use Rattle.aes.specs.Context.{Encrypts};
-ghost use Rattle.cba_mode.specs.Data.{withRest, dataSum, dataHash};
-ghost use Rattle.cba_steps.specs.Halves.{halvesOf};
+ghost use Rattle.cba_mode.specs.Data.{with_rest, data_sum, data_hash};
+ghost use Rattle.cba_steps.specs.Halves.{halves_of};
 ghost use Rattle.cba_steps.specs.Walk.{depth};
 
 use crate::offsets::{Halves, doubled, pad, start, step_block, whole};
@@ -31,7 +31,7 @@ fn added(
 // The sum after a rest under 16 bytes, which is padded where it is not empty.
 fn with_rest(key: &[u8], ctx: &aes::Context, sum: [u8; 16], offset: Halves, rest: &[u8]) -> [u8; 16]
     requires { Encrypts key.now ctx.now }
-    ensures { result ≡ withRest (cipher key.now) sum (halvesOf offset) rest.now }
+    ensures { result ≡ with_rest (cipher key.now) sum (halves_of offset) rest.now }
 {
     if rest.len() == 0 {
         return sum;
@@ -45,7 +45,7 @@ fn with_rest(key: &[u8], ctx: &aes::Context, sum: [u8; 16], offset: Halves, rest
 fn walk(key: &[u8], ctx: &aes::Context, sum: [u8; 16], a: u64, b: u64, rest: &[u8]) -> [u8; 16]
     requires encrypts { Encrypts key.now ctx.now }
     requires rest_bound { depth rest.now ≤ 256 }
-    ensures { result ≡ dataSum (cipher key.now) sum (digits 8 a ++ digits 8 b) rest.now }
+    ensures { result ≡ data_sum (cipher key.now) sum (digits 8 a ++ digits 8 b) rest.now }
 {
     let h = Halves { a: a, b: b };
     if rest.len() < 16 {
@@ -61,7 +61,7 @@ fn walk(key: &[u8], ctx: &aes::Context, sum: [u8; 16], a: u64, b: u64, rest: &[u
 pub fn data_hash(key: &[u8], ctx: &aes::Context, p: Parameters, ad: &[u8]) -> [u8; 16]
     requires encrypts { Encrypts key.now ctx.now }
     requires ad_len_bound { length ad.now ≤ 4096 }
-    ensures { result ≡ dataHash (cipher key.now) p.tau p.capacity ad.now }
+    ensures { result ≡ data_hash (cipher key.now) p.tau p.capacity ad.now }
 {
     let tau = p.tau;
     let b = p.capacity;

@@ -3,7 +3,7 @@ ghost use Rattle.std.specs.Prelude.{◌≡◌, ◌++◌, ◌∷◌, ◌+◌, ◌
 ghost use Rattle.octets.specs.Numbers.{digits};
 ghost use Rattle.aes_schedule.specs.Words.{bytes_of, block_of};
 ghost use Rattle.cba_mode.specs.Offsets.{two, three, times, F, start, pad};
-ghost use Rattle.cba_steps.specs.Halves.{halvesOf};
+ghost use Rattle.cba_steps.specs.Halves.{halves_of};
 
 use aes_schedule::{Words, first, fourth, join, read, second, third, write};
 
@@ -52,7 +52,7 @@ fn multiple(p: u8, x: u64) -> u64
 
 // F(p, q).
 pub fn step(p: u8, q: u8, h: Halves) -> Halves
-    ensures { halvesOf result ≡ F p q (halvesOf h) }
+    ensures { halves_of result ≡ F p q (halves_of h) }
 {
     Halves {
         a: multiple(p, h.a),
@@ -62,7 +62,7 @@ pub fn step(p: u8, q: u8, h: Halves) -> Halves
 
 // F(2, 2).
 pub fn doubled(h: Halves) -> Halves
-    ensures { halvesOf result ≡ F 2 2 (halvesOf h) }
+    ensures { halves_of result ≡ F 2 2 (halves_of h) }
 {
     Halves {
         a: double(h.a),
@@ -94,7 +94,7 @@ fn lower(x: u64) -> u32
 // An offset as a block: its words, and its bytes.
 
 pub fn words(h: Halves) -> Words
-    ensures { block_of result ≡ halvesOf h }
+    ensures { block_of result ≡ halves_of h }
 {
     Words {
         a: turned(upper(h.a)),
@@ -105,14 +105,14 @@ pub fn words(h: Halves) -> Words
 }
 
 pub fn whole(h: Halves) -> [u8; 16]
-    ensures { result ≡ halvesOf h }
+    ensures { result ≡ halves_of h }
 {
     write(words(h))
 }
 
 // F(p, q), as a block.
 pub fn step_block(p: u8, q: u8, h: Halves) -> [u8; 16]
-    ensures { result ≡ F p q (halvesOf h) }
+    ensures { result ≡ F p q (halves_of h) }
 {
     whole(step(p, q, h))
 }
@@ -125,7 +125,7 @@ fn half(p: u32, q: u32) -> u64
 }
 
 pub fn split(s: [u8; 16]) -> Halves
-    ensures { halvesOf result ≡ s }
+    ensures { halves_of result ≡ s }
 {
     let k = read(s);
     Halves {
@@ -137,7 +137,7 @@ pub fn split(s: [u8; 16]) -> Halves
 // Two halves turned right by k bits, where p is 2^k and q is 2^(64 - k).
 fn rotate(a: u64, b: u64, p: u64, q: u64) -> Halves
     requires { p * q ≡ 2 ^ 64 }
-    ensures { halvesOf result ≡ digits 16 ((a * 2 ^ 64 + b) / p + (a * 2 ^ 64 + b) % p * (q * 2 ^ 64)) }
+    ensures { halves_of result ≡ digits 16 ((a * 2 ^ 64 + b) / p + (a * 2 ^ 64 + b) % p * (q * 2 ^ 64)) }
 {
     Halves {
         a: a / p + b % p * q,
@@ -148,7 +148,7 @@ fn rotate(a: u64, b: u64, p: u64, q: u64) -> Halves
 // The first offset, from R or L, where w is ℓ: 0, 32 or 64.
 pub fn start(r: [u8; 16], w: u8) -> Halves
     requires { (w ≤ 64) × (w % 32 ≡ 0) }
-    ensures { halvesOf result ≡ start r w }
+    ensures { halves_of result ≡ start r w }
 {
     let h = split(r);
     if w == 0 {

@@ -1,6 +1,6 @@
 // The parameters of the mode.
 ghost use Rattle.std.specs.Prelude.{◌≡◌, ◌/◌, ◌≤◌};
-ghost use Rattle.cba_mode.specs.Sets.{ell, tagBytes};
+ghost use Rattle.cba_mode.specs.Sets.{ell, tag_bytes};
 
 // Key bits, tag bits τ, capacity exponent b.
 #[derive(Drop)]
@@ -18,7 +18,7 @@ impl Parameters {
     }
 
     pub fn tag_bytes(self) -> usize
-        ensures { result ≡ tagBytes self.tau }
+        ensures { result ≡ tag_bytes self.tau }
     {
         (self.tau / 8) as usize
     }

@@ -14,8 +14,8 @@ use lib.ListN.{get_or, replicate, get_or-append}
 use lib.Seq.{take_all}
 use Rattle.octets.specs.Xor.{xors}
 use Rattle.octets.specs.Numbers.{digits}
-use Rattle.octets.proofs.Xor.{xors-comm, xors-zero, append-xors}
-use Rattle.octets.proofs.Numbers.{length_digits, digits-xor, getD-digits}
+use Rattle.octets.proofs.Xor.{xors-comm, xors-zero, append_xors}
+use Rattle.octets.proofs.Numbers.{length_digits, digits_xor, get_or-digits}
 use Rattle.cba_steps.proofs.StartLaws.{number-pair, digits-pair, low_fits, half-fits}
 use Rattle.cmac_rules.specs.Cmac.{Rb, top_bit, shifted, double}
 
@@ -46,9 +46,9 @@ module _ (a b : ℕ) (h : a < 2 ^ 64) (k : b < 2 ^ 64) where
       ∙ mul-add-mod_self_right (a / 2 ^ 63) (2 ^ 128) (upper * 2 ^ 64 + lower)
       ∙ mod-eq_of_lt (digits_lt {m = 2 ^ 64} upper_fits lower-fits)
 
-  shifted-halves : digits 8 upper ++ digits 8 lower ≡ shifted (digits 8 a ++ digits 8 b)
+  shifted_halves : digits 8 upper ++ digits 8 lower ≡ shifted (digits 8 a ++ digits 8 b)
   unfolding shifted
-  shifted-halves =
+  shifted_halves =
       digits-pair upper lower upper_fits lower-fits
       ∙ ap (digits 16) (sym shifted-number)
       ∙ ap (λ (n : ℕ). digits 16 (n * 2 % 2 ^ 128)) (sym (number-pair a b h k))
@@ -56,20 +56,20 @@ module _ (a b : ℕ) (h : a < 2 ^ 64) (k : b < 2 ^ 64) where
   first_byte : get_or (digits 8 a ++ digits 8 b) 0 0 ≡ a / 2 ^ 56
   first_byte =
       get_or-append (digits 8 a) (digits 8 b) 0 0 (rw length_digits (omega arith))
-      ∙ getD-digits 8 a 0 (omega arith) ∙ omega arith
+      ∙ get_or-digits 8 a 0 (omega arith) ∙ omega arith
 
   -- Rb in the lower half
-  with-constant : digits 8 upper ++ digits 8 (bit_xor lower 0x87) ≡ xors (digits 8 upper ++ digits 8 lower) Rb
+  with_constant : digits 8 upper ++ digits 8 (bit_xor lower 0x87) ≡ xors (digits 8 upper ++ digits 8 lower) Rb
   unfolding digits
-  with-constant =
+  with_constant =
       ap₂ ◌++◌
       (sym (xors-comm (digits 8 upper) (replicate 8 0) ∙ xors-zero 8 (digits 8 upper) ∙ take_all 8 (digits 8 upper) (rw length_digits (omega arith))))
-      (digits-xor 8 lower 0x87)
-      ∙ sym (append-xors (digits 8 upper) (replicate 8 0) (digits 8 lower) (digits 8 0x87) (length_digits 8 upper))
+      (digits_xor 8 lower 0x87)
+      ∙ sym (append_xors (digits 8 upper) (replicate 8 0) (digits 8 lower) (digits 8 0x87) (length_digits 8 upper))
 
-  pub double-halves : digits 8 upper ++ digits 8 (bit_xor lower (a / 2 ^ 63 * 0x87)) ≡ double (digits 8 a ++ digits 8 b)
+  pub double_halves : digits 8 upper ++ digits 8 (bit_xor lower (a / 2 ^ 63 * 0x87)) ≡ double (digits 8 a ++ digits 8 b)
   unfolding double
-  double-halves = go (top_bit (digits 8 a ++ digits 8 b)) refl
+  double_halves = go (top_bit (digits 8 a ++ digits 8 b)) refl
     where
       go : (x : Bool) → top_bit (digits 8 a ++ digits 8 b) ≡ x →
           digits 8 upper ++ digits 8 (bit_xor lower (a / 2 ^ 63 * 0x87))
@@ -77,8 +77,8 @@ module _ (a b : ℕ) (h : a < 2 ^ 64) (k : b < 2 ^ 64) where
       go true e =
           let t : 128 ≤ a / 2 ^ 56 = leb-true 128 _ (ap (leb 128) (sym first_byte) ∙ e) in
           let q : a / 2 ^ 63 ≡ 1 = omega arith in
-          rw (e, q) (with-constant ∙ ap (λ (s : List ℕ). xors s Rb) shifted-halves)
+          rw (e, q) (with_constant ∙ ap (λ (s : List ℕ). xors s Rb) shifted_halves)
       go false e =
           let t : a / 2 ^ 56 < 128 = leb-false 128 _ (ap (leb 128) (sym first_byte) ∙ e) in
           let q : a / 2 ^ 63 ≡ 0 = omega arith in
-          rw (e, q) (ap (λ (n : ℕ). digits 8 upper ++ digits 8 n) (xor_zero_r lower) ∙ shifted-halves)
+          rw (e, q) (ap (λ (n : ℕ). digits 8 upper ++ digits 8 n) (xor_zero_r lower) ∙ shifted_halves)

@@ -2,7 +2,7 @@
 ghost use Rattle.std.specs.Prelude.{◌≡◌, ◌-◌, ◌*◌, ◌≤◌, length};
 ghost use Rattle.fips197.specs.Cipher.{cipher};
 ghost use Rattle.aes.specs.Context.{Encrypts};
-ghost use Rattle.cmac_rules.specs.Cmac.{blocks, chain, lastBlock, cmac};
+ghost use Rattle.cmac_rules.specs.Cmac.{blocks, chain, last_block, cmac};
 
 use crate::subkeys::generate_subkeys;
 
@@ -27,7 +27,7 @@ fn chain(key: &[u8], ctx: &aes::Context, message: &[u8], n: usize) -> [u8; 16]
 fn last_block(key: &[u8], ctx: &aes::Context, rest: &[u8]) -> [u8; 16]
     requires encrypts { Encrypts key.now ctx.now }
     requires rest_len_bound { length rest.now ≤ 16 }
-    ensures { result ≡ lastBlock (cipher key.now) rest.now }
+    ensures { result ≡ last_block (cipher key.now) rest.now }
 {
     let s = generate_subkeys(key, ctx);
     if rest.len() == 16 {

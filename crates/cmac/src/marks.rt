@@ -3,7 +3,7 @@ ghost use Rattle.std.specs.Prelude.{◌≡◌, true};
 ghost use Rattle.answers.specs.Rows.{answer};
 ghost use Rattle.fips197.specs.Schedule.{is_key};
 ghost use Rattle.cmac_rules.specs.Cmac.{cmac};
-ghost use Rattle.cmac_rules.specs.Marks.{markRows, MakeCall, CheckCall};
+ghost use Rattle.cmac_rules.specs.Marks.{mark_rows, MakeCall, CheckCall};
 
 use crate::chain::code;
 
@@ -11,7 +11,7 @@ const MOST_LOG: usize = 65536;
 
 // 2, 5 and 14, which both calls begin with.
 fn checks(key: &[u8], log: usize, mark: usize) -> u32
-    ensures { result ≡ answer (markRows key.now log mark) }
+    ensures { result ≡ answer (mark_rows key.now log mark) }
 {
     if !aes::is_key(key) {
         return 2;

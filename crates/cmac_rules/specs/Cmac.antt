@@ -51,12 +51,12 @@ module _ (E : List ℕ → List ℕ) where
   chain M (suc i) = E (xors (chain M i) (block 16 M i))
 
   -- M_last, from the last block: with K1 where it is full, padded and with K2 where it is not
-  unfoldable pub lastBlock : List ℕ → List ℕ
-  lastBlock x = cond (eqb (length x) 16) (xors x K1) (xors (padding x) K2)
+  unfoldable pub last_block : List ℕ → List ℕ
+  last_block x = cond (eqb (length x) 16) (xors x K1) (xors (padding x) K2)
 
   -- T := E(M_last XOR X), X being that after the first n − 1 blocks
   unfoldable pub CMAC : List ℕ → List ℕ
-  CMAC M = let i = blocks (length M) - 1 in E (xors (lastBlock (drop (16 * i) M)) (chain M i))
+  CMAC M = let i = blocks (length M) - 1 in E (xors (last_block (drop (16 * i) M)) (chain M i))
 
 -- AES-CMAC, under a key of 16, 24 or 32 bytes
 unfoldable pub cmac : List ℕ → List ℕ → List ℕ

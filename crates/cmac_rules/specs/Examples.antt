@@ -6,11 +6,11 @@ use Rattle.octets.specs.Xor.{xors}
 use Rattle.octets.specs.Numbers.{digits}
 use Rattle.answers.specs.Rows.{answer}
 use Rattle.cmac_rules.specs.Cmac.{double, K1, K2, CMAC}
-use Rattle.cmac_rules.specs.Marks.{makeRows, checkRows, isStart}
+use Rattle.cmac_rules.specs.Marks.{make_rows, check_rows, is_start}
 
 -- the subkeys are twice E(0^128) and twice that; RFC 4493's, section 4, where AES gives this L, and SP 800-38B's for its key of 256 bits
 pub record Subkeys : Type 1 where
-  pub of-zeros : (E : List ℕ → List ℕ) → (K1 E ≡ double (E (replicate 16 0))) × (K2 E ≡ double (double (E (replicate 16 0))))
+  pub of_zeros : (E : List ℕ → List ℕ) → (K1 E ≡ double (E (replicate 16 0))) × (K2 E ≡ double (double (E (replicate 16 0))))
   pub first : K1 (λ b. digits 16 0x7df76b0c1ab899b33e42f047b91b546f) ≡ digits 16 0xfbeed618357133667c85e08f7236a8de
   pub second : K2 (λ b. digits 16 0x7df76b0c1ab899b33e42f047b91b546f) ≡ digits 16 0xf7ddac306ae266ccf90bc11ee46d513b
   pub longer-first : K1 (λ b. digits 16 0xe568f68194cf76d6174d4cc04310a854) ≡ digits 16 0xcad1ed03299eedac2e9a99808621502f
@@ -33,17 +33,17 @@ pub record Figure : Type 1 where
 -- marks beside a code, of six bytes to be short: its start and the whole; another first, middle and last byte; bytes from within; one
 -- more
 pub record Starts : Type 0 where
-  pub short : isStart (1 ∷ 2 ∷ 3 ∷ 4 ∷ []) (1 ∷ 2 ∷ 3 ∷ 4 ∷ 5 ∷ 6 ∷ []) ≡ true
-  pub whole : isStart (1 ∷ 2 ∷ 3 ∷ 4 ∷ 5 ∷ 6 ∷ []) (1 ∷ 2 ∷ 3 ∷ 4 ∷ 5 ∷ 6 ∷ []) ≡ true
-  pub other-first : isStart (0 ∷ 2 ∷ 3 ∷ 4 ∷ []) (1 ∷ 2 ∷ 3 ∷ 4 ∷ 5 ∷ 6 ∷ []) ≡ false
-  pub other-middle : isStart (1 ∷ 2 ∷ 0 ∷ 4 ∷ []) (1 ∷ 2 ∷ 3 ∷ 4 ∷ 5 ∷ 6 ∷ []) ≡ false
-  pub other_last : isStart (1 ∷ 2 ∷ 3 ∷ 0 ∷ []) (1 ∷ 2 ∷ 3 ∷ 4 ∷ 5 ∷ 6 ∷ []) ≡ false
-  pub within : isStart (2 ∷ 3 ∷ 4 ∷ 5 ∷ []) (1 ∷ 2 ∷ 3 ∷ 4 ∷ 5 ∷ 6 ∷ []) ≡ false
-  pub longer : isStart (1 ∷ 2 ∷ 3 ∷ 4 ∷ 5 ∷ 6 ∷ 7 ∷ []) (1 ∷ 2 ∷ 3 ∷ 4 ∷ 5 ∷ 6 ∷ []) ≡ false
+  pub short : is_start (1 ∷ 2 ∷ 3 ∷ 4 ∷ []) (1 ∷ 2 ∷ 3 ∷ 4 ∷ 5 ∷ 6 ∷ []) ≡ true
+  pub whole : is_start (1 ∷ 2 ∷ 3 ∷ 4 ∷ 5 ∷ 6 ∷ []) (1 ∷ 2 ∷ 3 ∷ 4 ∷ 5 ∷ 6 ∷ []) ≡ true
+  pub other_first : is_start (0 ∷ 2 ∷ 3 ∷ 4 ∷ []) (1 ∷ 2 ∷ 3 ∷ 4 ∷ 5 ∷ 6 ∷ []) ≡ false
+  pub other_middle : is_start (1 ∷ 2 ∷ 0 ∷ 4 ∷ []) (1 ∷ 2 ∷ 3 ∷ 4 ∷ 5 ∷ 6 ∷ []) ≡ false
+  pub other_last : is_start (1 ∷ 2 ∷ 3 ∷ 0 ∷ []) (1 ∷ 2 ∷ 3 ∷ 4 ∷ 5 ∷ 6 ∷ []) ≡ false
+  pub within : is_start (2 ∷ 3 ∷ 4 ∷ 5 ∷ []) (1 ∷ 2 ∷ 3 ∷ 4 ∷ 5 ∷ 6 ∷ []) ≡ false
+  pub longer : is_start (1 ∷ 2 ∷ 3 ∷ 4 ∷ 5 ∷ 6 ∷ 7 ∷ []) (1 ∷ 2 ∷ 3 ∷ 4 ∷ 5 ∷ 6 ∷ []) ≡ false
 
 -- the answer, then key, log, mark and room
-abbrev pub makeCalls : List (List ℕ)
-makeCalls =
+abbrev pub make_calls : List (List ℕ)
+make_calls =
     (0 ∷ 16 ∷ 0 ∷ 4 ∷ 4 ∷ [])
     ∷ (0 ∷ 24 ∷ 65536 ∷ 16 ∷ 16 ∷ [])
     ∷ (0 ∷ 32 ∷ 1 ∷ 8 ∷ 9 ∷ [])
@@ -63,8 +63,8 @@ makeCalls =
     ∷ []
 
 -- the same without the room: of a right mark, and of a wrong one
-abbrev pub rightMarks : List (List ℕ)
-rightMarks =
+abbrev pub right_marks : List (List ℕ)
+right_marks =
     (0 ∷ 16 ∷ 0 ∷ 4 ∷ [])
     ∷ (0 ∷ 24 ∷ 65536 ∷ 16 ∷ [])
     ∷ (0 ∷ 32 ∷ 1 ∷ 8 ∷ [])
@@ -75,8 +75,8 @@ rightMarks =
     ∷ (14 ∷ 16 ∷ 0 ∷ 17 ∷ [])
     ∷ []
 
-abbrev pub wrongMarks : List (List ℕ)
-wrongMarks =
+abbrev pub wrong_marks : List (List ℕ)
+wrong_marks =
     (8 ∷ 16 ∷ 0 ∷ 4 ∷ [])
     ∷ (8 ∷ 32 ∷ 65536 ∷ 16 ∷ [])
     ∷ (2 ∷ 15 ∷ 65537 ∷ 17 ∷ [])
@@ -84,11 +84,11 @@ wrongMarks =
     ∷ (14 ∷ 16 ∷ 65536 ∷ 17 ∷ [])
     ∷ []
 
-unfoldable pub makesSo : List (List ℕ) → Bool
-makesSo [] = true
-makesSo (c ∷ cs) = eqb (answer (makeRows (replicate (get_or c 1 0) 0) (get_or c 2 0) (get_or c 3 0) (get_or c 4 0))) (get_or c 0 0) && makesSo cs
+unfoldable pub makes_so : List (List ℕ) → Bool
+makes_so [] = true
+makes_so (c ∷ cs) = eqb (answer (make_rows (replicate (get_or c 1 0) 0) (get_or c 2 0) (get_or c 3 0) (get_or c 4 0))) (get_or c 0 0) && makes_so cs
 
-unfoldable pub checksSo : Bool → List (List ℕ) → Bool
-checksSo wrong [] = true
-checksSo wrong (c ∷ cs) =
-    eqb (answer (checkRows (replicate (get_or c 1 0) 0) (get_or c 2 0) (get_or c 3 0) wrong)) (get_or c 0 0) && checksSo wrong cs
+unfoldable pub checks_so : Bool → List (List ℕ) → Bool
+checks_so wrong [] = true
+checks_so wrong (c ∷ cs) =
+    eqb (answer (check_rows (replicate (get_or c 1 0) 0) (get_or c 2 0) (get_or c 3 0) wrong)) (get_or c 0 0) && checks_so wrong cs

@@ -9,9 +9,9 @@ use lib.Bits.{bit_xor, xor_comm, xor_self, xor_zero_l, xor_shr, xor_mod, xor_blo
 use lib.Dec.{T}
 use lib.ListN.{get_or}
 use Rattle.octets.proofs.Tests.{agree, same}
-use Rattle.octets.proofs.Xor.{xor-half, xor_assoc, xor-left-comm, xor-cancel, xor-byte}
-use Rattle.field.specs.Field.{xtime, mulBits, mul, dot}
-use Rattle.field.proofs.Rules.{mul-byte}
+use Rattle.octets.proofs.Xor.{xor_half, xor_assoc, xor_left-comm, xor_cancel, xor_byte}
+use Rattle.field.specs.Field.{xtime, mul_bits, mul, dot}
+use Rattle.field.proofs.Rules.{mul_byte}
 
 -- ---- sums of doublings, for any operation with the exclusive or's laws and any doubling that is additive over it
 
@@ -22,7 +22,7 @@ module _ (◌⊕◌ : ℕ → ℕ → ℕ) where
     left_comm : (a b c : ℕ) → a ⊕ b ⊕ c ≡ b ⊕ a ⊕ c
     comm : (a b : ℕ) → a ⊕ b ≡ b ⊕ a
     self : (a : ℕ) → a ⊕ a ≡ 0
-    zero-l : (a : ℕ) → 0 ⊕ a ≡ a
+    zero_l : (a : ℕ) → 0 ⊕ a ≡ a
     cancel : (a b : ℕ) → a ⊕ a ⊕ b ≡ b
 
   four : Laws → (p q r s : ℕ) → (p ⊕ q) ⊕ r ⊕ s ≡ (p ⊕ r) ⊕ q ⊕ s
@@ -51,67 +51,67 @@ module _ (◌⊕◌ : ℕ → ℕ → ℕ) where
 
     unmix-mix : unmix (mix a b c d) (mix b c d a) (mix c d a b) (mix d a b c) ≡ a
     unfolding mix unmix
-    unmix-mix = simp (additive, L.assoc, L.left_comm, L.comm, L.self, L.cancel, L.zero-l)
+    unmix-mix = simp (additive, L.assoc, L.left_comm, L.comm, L.self, L.cancel, L.zero_l)
 
     mix-unmix : mix (unmix a b c d) (unmix b c d a) (unmix c d a b) (unmix d a b c) ≡ a
     unfolding mix unmix
-    mix-unmix = simp (additive, L.assoc, L.left_comm, L.comm, L.self, L.cancel, L.zero-l)
+    mix-unmix = simp (additive, L.assoc, L.left_comm, L.comm, L.self, L.cancel, L.zero_l)
 
 laws : Laws bit_xor
 laws =
     record {
       assoc = xor_assoc;
-      left_comm = xor-left-comm;
+      left_comm = xor_left-comm;
       comm = xor_comm;
       self = xor_self;
-      zero-l = xor_zero_l;
-      cancel = xor-cancel;
+      zero_l = xor_zero_l;
+      cancel = xor_cancel;
     }
 
 -- ---- doubling is additive
 
-twice-xor : (a b : ℕ) → bit_xor a b * 2 ≡ bit_xor (a * 2) (b * 2)
-twice-xor a b = sym (simp add-zero at (xor_block 1 a b 0 0 (omega arith) (omega arith)))
+twice_xor : (a b : ℕ) → bit_xor a b * 2 ≡ bit_xor (a * 2) (b * 2)
+twice_xor a b = sym (simp add-zero at (xor_block 1 a b 0 0 (omega arith) (omega arith)))
 
-reduce-xor : (x y : ℕ) → x < 2 → y < 2 → bit_xor x y * 0x1b ≡ bit_xor (x * 0x1b) (y * 0x1b)
-reduce-xor zero y h k = refl
-reduce-xor (suc zero) zero h k = refl
-reduce-xor (suc zero) (suc zero) h k = refl
-reduce-xor (suc zero) (suc (suc y)) h k = absurd (omega arith)
-reduce-xor (suc (suc x)) y h k = absurd (omega arith)
+reduce_xor : (x y : ℕ) → x < 2 → y < 2 → bit_xor x y * 0x1b ≡ bit_xor (x * 0x1b) (y * 0x1b)
+reduce_xor zero y h k = refl
+reduce_xor (suc zero) zero h k = refl
+reduce_xor (suc zero) (suc zero) h k = refl
+reduce_xor (suc zero) (suc (suc y)) h k = absurd (omega arith)
+reduce_xor (suc (suc x)) y h k = absurd (omega arith)
 
-pub xtime-xor : (a b : ℕ) → xtime (bit_xor a b) ≡ bit_xor (xtime a) (xtime b)
+pub xtime_xor : (a b : ℕ) → xtime (bit_xor a b) ≡ bit_xor (xtime a) (xtime b)
 unfolding xtime
-xtime-xor a b =
+xtime_xor a b =
     ap₂ bit_xor
-    (ap (λ (k : ℕ). k % 256) (twice-xor a b) ∙ xor_mod (a * 2) (b * 2) 8)
+    (ap (λ (k : ℕ). k % 256) (twice_xor a b) ∙ xor_mod (a * 2) (b * 2) 8)
     (ap (λ (k : ℕ). k % 2 * 0x1b) (xor_shr a b 7) ∙ ap (λ (k : ℕ). k * 0x1b) (xor_mod (a / 128) (b / 128) 1)
-    ∙ reduce-xor (a / 128 % 2) (b / 128 % 2) (omega arith) (omega arith))
+    ∙ reduce_xor (a / 128 % 2) (b / 128 % 2) (omega arith) (omega arith))
     ∙ four bit_xor laws (a * 2 % 256) (b * 2 % 256) (a / 128 % 2 * 0x1b) (b / 128 % 2 * 0x1b)
 
 -- ---- a matrix is additive, as section 5.3.5 needs it: the row of a sum is the sum of the rows
 
-times-xor : (a x y : ℕ) → x < 2 → y < 2 → a * bit_xor x y ≡ bit_xor (a * x) (a * y)
-times-xor a zero y h k = rw (xor_zero_l y, mul-zero a) (sym (xor_zero_l (a * y)))
-times-xor a (suc zero) zero h k = rw (mul-zero a) (sym (xor_comm (a * 1) 0 ∙ xor_zero_l (a * 1)))
-times-xor a (suc zero) (suc zero) h k = mul-zero a ∙ sym (xor_self (a * 1))
-times-xor a (suc zero) (suc (suc y)) h k = absurd (omega arith)
-times-xor a (suc (suc x)) y h k = absurd (omega arith)
+times_xor : (a x y : ℕ) → x < 2 → y < 2 → a * bit_xor x y ≡ bit_xor (a * x) (a * y)
+times_xor a zero y h k = rw (xor_zero_l y, mul-zero a) (sym (xor_zero_l (a * y)))
+times_xor a (suc zero) zero h k = rw (mul-zero a) (sym (xor_comm (a * 1) 0 ∙ xor_zero_l (a * 1)))
+times_xor a (suc zero) (suc zero) h k = mul-zero a ∙ sym (xor_self (a * 1))
+times_xor a (suc zero) (suc (suc y)) h k = absurd (omega arith)
+times_xor a (suc (suc x)) y h k = absurd (omega arith)
 
-mulBits-xor : (n a b c : ℕ) → mulBits n a (bit_xor b c) ≡ bit_xor (mulBits n a b) (mulBits n a c)
-unfolding mulBits
-mulBits-xor zero a b c = refl
-mulBits-xor (suc n) a b c =
+mul_bits_xor : (n a b c : ℕ) → mul_bits n a (bit_xor b c) ≡ bit_xor (mul_bits n a b) (mul_bits n a c)
+unfolding mul_bits
+mul_bits_xor zero a b c = refl
+mul_bits_xor (suc n) a b c =
     ap₂ bit_xor
-    (ap (λ (k : ℕ). a * k) (xor_mod b c 1) ∙ times-xor a (b % 2) (c % 2) (omega arith) (omega arith))
-    (ap (mulBits n (xtime a)) (xor-half b c) ∙ mulBits-xor n (xtime a) (b / 2) (c / 2))
-    ∙ four bit_xor laws (a * (b % 2)) (a * (c % 2)) (mulBits n (xtime a) (b / 2)) (mulBits n (xtime a) (c / 2))
+    (ap (λ (k : ℕ). a * k) (xor_mod b c 1) ∙ times_xor a (b % 2) (c % 2) (omega arith) (omega arith))
+    (ap (mul_bits n (xtime a)) (xor_half b c) ∙ mul_bits_xor n (xtime a) (b / 2) (c / 2))
+    ∙ four bit_xor laws (a * (b % 2)) (a * (c % 2)) (mul_bits n (xtime a) (b / 2)) (mul_bits n (xtime a) (c / 2))
 
-pub dot-xor : (p q r s a b c d e f g h : ℕ) →
+pub dot_xor : (p q r s a b c d e f g h : ℕ) →
     dot p q r s (bit_xor a e) (bit_xor b f) (bit_xor c g) (bit_xor d h) ≡ bit_xor (dot p q r s a b c d) (dot p q r s e f g h)
 unfolding dot mul
-dot-xor p q r s a b c d e f g h =
-    ap₂ bit_xor (mulBits-xor 8 p a e) (ap₂ bit_xor (mulBits-xor 8 q b f) (ap₂ bit_xor (mulBits-xor 8 r c g) (mulBits-xor 8 s d h)))
+dot_xor p q r s a b c d e f g h =
+    ap₂ bit_xor (mul_bits_xor 8 p a e) (ap₂ bit_xor (mul_bits_xor 8 q b f) (ap₂ bit_xor (mul_bits_xor 8 r c g) (mul_bits_xor 8 s d h)))
     ∙ eight bit_xor laws (mul p a) (mul p e) (mul q b) (mul q f) (mul r c) (mul r g) (mul s d) (mul s h)
 
 -- ---- the multiples that the two matrices have
@@ -127,7 +127,7 @@ right v =
     v ∷ w ∷ bit_xor w v ∷ bit_xor y v ∷ bit_xor y (bit_xor w v) ∷ bit_xor y (bit_xor x v) ∷ bit_xor y (bit_xor x w) ∷ []
 
 test : T (agree found right 256)
-unfolding found right xtime mulBits mul
+unfolding found right xtime mul_bits mul
 test = tt
 
 multiples : (i v : ℕ) → v < 256 → get_or (found v) i 0 ≡ get_or (right v) i 0
@@ -152,11 +152,11 @@ unmixed a b c d =
 
 unmixed-mixed : (a b c d : ℕ) → unmixed (mixed a b c d) (mixed b c d a) (mixed c d a b) (mixed d a b c) ≡ a
 unfolding mixed unmixed mix unmix
-unmixed-mixed = unmix-mix bit_xor laws xtime xtime-xor
+unmixed-mixed = unmix-mix bit_xor laws xtime xtime_xor
 
 mixed-unmixed : (a b c d : ℕ) → mixed (unmixed a b c d) (unmixed b c d a) (unmixed c d a b) (unmixed d a b c) ≡ a
 unfolding mixed unmixed mix unmix
-mixed-unmixed = mix-unmix bit_xor laws xtime xtime-xor
+mixed-unmixed = mix-unmix bit_xor laws xtime xtime_xor
 
 -- a column of bytes
 pub record Column (a b c d : ℕ) : Type 0 where
@@ -172,18 +172,18 @@ pub mixed-row : {a b c d : ℕ} → Column a b c d → dot 2 3 1 1 a b c d ≡ m
 unfolding found right mixed dot
 mixed-row {a} {b} {c} {d} h =
     ap₂ bit_xor (multiples 1 a h.one) (ap₂ bit_xor (multiples 2 b h.two) (ap₂ bit_xor (multiples 0 c h.three) (multiples 0 d h.four)))
-    ∙ mixed-sum bit_xor laws xtime xtime-xor a b c d
+    ∙ mixed-sum bit_xor laws xtime xtime_xor a b c d
 
 pub unmixed-row : {a b c d : ℕ} → Column a b c d → dot 0x0e 0x0b 0x0d 0x09 a b c d ≡ unmixed a b c d
 unfolding found right unmixed dot
 unmixed-row {a} {b} {c} {d} h =
     ap₂ bit_xor (multiples 6 a h.one) (ap₂ bit_xor (multiples 4 b h.two) (ap₂ bit_xor (multiples 5 c h.three) (multiples 3 d h.four)))
-    ∙ unmixed-sum bit_xor laws xtime xtime-xor a b c d
+    ∙ unmixed-sum bit_xor laws xtime xtime_xor a b c d
 
-pub dot-byte : (p q r s a b c d : ℕ) → Column p q r s → dot p q r s a b c d < 256
+pub dot_byte : (p q r s a b c d : ℕ) → Column p q r s → dot p q r s a b c d < 256
 unfolding dot
-dot-byte p q r s a b c d h =
-    xor-byte _ _ (mul-byte p a h.one) (xor-byte _ _ (mul-byte q b h.two) (xor-byte _ _ (mul-byte r c h.three) (mul-byte s d h.four)))
+dot_byte p q r s a b c d h =
+    xor_byte _ _ (mul_byte p a h.one) (xor_byte _ _ (mul_byte q b h.two) (xor_byte _ _ (mul_byte r c h.three) (mul_byte s d h.four)))
 
 -- ---- a column under one matrix, then under the other, is itself
 
@@ -204,7 +204,7 @@ pub unmix-undoes : {a b c d : ℕ} → Column a b c d →
     dot 0x0e 0x0b 0x0d 0x09 (dot 2 3 1 1 a b c d) (dot 2 3 1 1 b c d a) (dot 2 3 1 1 c d a b) (dot 2 3 1 1 d a b c) ≡ a
 unmix-undoes =
     undo (dot 2 3 1 1) (dot 0x0e 0x0b 0x0d 0x09) mixed unmixed
-    (λ a b c d. dot-byte 2 3 1 1 a b c d (omega arith))
+    (λ a b c d. dot_byte 2 3 1 1 a b c d (omega arith))
     (λ a b c d h. mixed-row h)
     (λ a b c d h. unmixed-row h)
     unmixed-mixed
@@ -217,7 +217,7 @@ pub mix-undoes : {a b c d : ℕ} → Column a b c d →
     (dot 0x0e 0x0b 0x0d 0x09 d a b c) ≡ a
 mix-undoes =
     undo (dot 0x0e 0x0b 0x0d 0x09) (dot 2 3 1 1) unmixed mixed
-    (λ a b c d. dot-byte 0x0e 0x0b 0x0d 0x09 a b c d (omega arith))
+    (λ a b c d. dot_byte 0x0e 0x0b 0x0d 0x09 a b c d (omega arith))
     (λ a b c d h. unmixed-row h)
     (λ a b c d h. mixed-row h)
     mixed-unmixed

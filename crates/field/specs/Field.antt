@@ -10,13 +10,13 @@ unfoldable pub xtime : ℕ → ℕ
 xtime v = bit_xor (v * 2 % 256) (v / 128 % 2 * 0x1b)
 
 -- section 4.2.1: a product is the sum of a x^i over the bits i of b that are set, for the n lowest bits
-unfoldable pub mulBits : ℕ → ℕ → ℕ → ℕ
-mulBits zero a b = 0
-mulBits (suc n) a b = bit_xor (a * (b % 2)) (mulBits n (xtime a) (b / 2))
+unfoldable pub mul_bits : ℕ → ℕ → ℕ → ℕ
+mul_bits zero a b = 0
+mul_bits (suc n) a b = bit_xor (a * (b % 2)) (mul_bits n (xtime a) (b / 2))
 
 -- section 4.2: a • b modulo m(x)
 unfoldable pub mul : ℕ → ℕ → ℕ
-mul a b = mulBits 8 a b
+mul a b = mul_bits 8 a b
 
 -- section 4.3: a row p, q, r, s of a matrix times a column a, b, c, d
 unfoldable pub dot : ℕ → ℕ → ℕ → ℕ → ℕ → ℕ → ℕ → ℕ → ℕ

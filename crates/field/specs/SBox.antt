@@ -18,22 +18,22 @@ unfoldable pub affine : ℕ → ℕ
 affine v = bits_of (λ i. bit v i + bit v (i + 4) + bit v (i + 5) + bit v (i + 6) + bit v (i + 7) + bit 0x63 i) 8
 
 -- the inverse of that map: b_i = b'_(i+2) ⊕ b'_(i+5) ⊕ b'_(i+7) ⊕ d_i with d = 05
-unfoldable pub invAffine : ℕ → ℕ
-invAffine v = bits_of (λ i. bit v (i + 2) + bit v (i + 5) + bit v (i + 7) + bit 0x05 i) 8
+unfoldable pub inv_affine : ℕ → ℕ
+inv_affine v = bits_of (λ i. bit v (i + 2) + bit v (i + 5) + bit v (i + 7) + bit 0x05 i) 8
 
 -- the affine map of the multiplicative inverse
-unfoldable pub sBox : ℕ → ℕ
-sBox v = affine (inverse v)
+unfoldable pub s_box : ℕ → ℕ
+s_box v = affine (inverse v)
 
 -- the inverse of the affine map, then the multiplicative inverse
-unfoldable pub invSBox : ℕ → ℕ
-invSBox v = inverse (invAffine v)
+unfoldable pub inv_s_box : ℕ → ℕ
+inv_s_box v = inverse (inv_affine v)
 
 -- the two rules of document 01, over all 256 entries of the tables: each box undoes the other, and S(v) is the affine map of v's inverse,
 -- where 00 maps to itself and every other byte times its inverse is 01
 pub record SBoxRules : Type 0 where
-  pub undone : (v : ℕ) → v < 256 → get_or (table invSBox 256) (get_or (table sBox 256) v 0) 0 ≡ v
-  pub undoes : (v : ℕ) → v < 256 → get_or (table sBox 256) (get_or (table invSBox 256) v 0) 0 ≡ v
-  pub affine-of : (v : ℕ) → v < 256 → get_or (table sBox 256) v 0 ≡ affine (inverse v)
+  pub undone : (v : ℕ) → v < 256 → get_or (table inv_s_box 256) (get_or (table s_box 256) v 0) 0 ≡ v
+  pub undoes : (v : ℕ) → v < 256 → get_or (table s_box 256) (get_or (table inv_s_box 256) v 0) 0 ≡ v
+  pub affine_of : (v : ℕ) → v < 256 → get_or (table s_box 256) v 0 ≡ affine (inverse v)
   pub inverse-zero : inverse 0 ≡ 0
-  pub inverse-law : (v : ℕ) → 0 < v → v < 256 → mul v (inverse v) ≡ 1
+  pub inverse_law : (v : ℕ) → 0 < v → v < 256 → mul v (inverse v) ≡ 1

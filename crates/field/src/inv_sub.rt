@@ -1,7 +1,7 @@
 // The inverse S-box of FIPS 197, figure 14, as a constant table.
 ghost use Rattle.std.specs.Prelude.{◌≡◌};
 ghost use Rattle.octets.specs.Strings.{table};
-ghost use Rattle.field.specs.SBox.{invSBox};
+ghost use Rattle.field.specs.SBox.{inv_s_box};
 
 const INVERSE_S_BOX: [u8; 256] = [
     0x52, 0x09, 0x6a, 0xd5, 0x30, 0x36, 0xa5, 0x38, 0xbf, 0x40, 0xa3, 0x9e, 0x81, 0xf3, 0xd7, 0xfb,
@@ -24,7 +24,7 @@ const INVERSE_S_BOX: [u8; 256] = [
 
 // The inverse S-box. The table is stored to the stack at every call: take it once, and lend it on.
 pub fn inverse_s_box() -> [u8; 256]
-    ensures { result ≡ table invSBox 256 }
+    ensures { result ≡ table inv_s_box 256 }
 {
     INVERSE_S_BOX
 }

@@ -1,7 +1,7 @@
 // The S-box of FIPS 197, figure 7, as a constant table.
 ghost use Rattle.std.specs.Prelude.{◌≡◌};
 ghost use Rattle.octets.specs.Strings.{table};
-ghost use Rattle.field.specs.SBox.{sBox};
+ghost use Rattle.field.specs.SBox.{s_box};
 
 const S_BOX: [u8; 256] = [
     0x63, 0x7c, 0x77, 0x7b, 0xf2, 0x6b, 0x6f, 0xc5, 0x30, 0x01, 0x67, 0x2b, 0xfe, 0xd7, 0xab, 0x76,
@@ -24,7 +24,7 @@ const S_BOX: [u8; 256] = [
 
 // The S-box. The table is stored to the stack at every call: take it once, and lend it on.
 pub fn s_box() -> [u8; 256]
-    ensures { result ≡ table sBox 256 }
+    ensures { result ≡ table s_box 256 }
 {
     S_BOX
 }

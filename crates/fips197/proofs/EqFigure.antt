@@ -3,61 +3,61 @@
 use mathlib.Core.Path.{refl}
 use mathlib.Core.List.{List}
 use Prim.Native.Nat.{ℕ}
-use Rattle.fips197.specs.Trace.{step, stateAfter, CipherFigure, EqStepFigure}
-use Rattle.fips197.specs.Equivalent.{modifiedKey, modifiedKeys, eqRounds, eqStep, eqState, EqFigure}
+use Rattle.fips197.specs.Trace.{step, state_after, CipherFigure, EqStepFigure}
+use Rattle.fips197.specs.Equivalent.{modified_key, modified_keys, eq_rounds, eq_step, eq_state, EqFigure}
 
 pub written_out : (w dw s : List ℕ) → EqFigure w dw s
-unfolding modifiedKey modifiedKeys eqRounds eqStep eqState
+unfolding modified_key modified_keys eq_rounds eq_step eq_state
 written_out w dw s =
     record {
       schedule = refl;
-      step-0 = refl;
-      step-1 = refl;
-      step-2 = refl;
-      step-3 = refl;
-      step-4 = refl;
-      step-5 = refl;
-      step-6 = refl;
-      step-7 = refl;
-      step-8 = refl;
-      step-9 = refl;
-      step-10 = refl;
-      step-11 = refl;
+      step_0 = refl;
+      step_1 = refl;
+      step_2 = refl;
+      step_3 = refl;
+      step_4 = refl;
+      step_5 = refl;
+      step_6 = refl;
+      step_7 = refl;
+      step_8 = refl;
+      step_9 = refl;
+      step_10 = refl;
+      step_11 = refl;
       whole = refl;
     }
 
-pub steps-out : (w s : List ℕ) → CipherFigure w s
-unfolding step stateAfter
-steps-out w s =
+pub steps_out : (w s : List ℕ) → CipherFigure w s
+unfolding step state_after
+steps_out w s =
     record {
-      step-0 = refl;
-      step-1 = refl;
-      step-2 = refl;
-      step-3 = refl;
-      step-4 = refl;
-      step-5 = refl;
-      step-6 = refl;
-      step-7 = refl;
-      step-8 = refl;
-      step-9 = refl;
-      step-10 = refl;
-      step-11 = refl;
+      step_0 = refl;
+      step_1 = refl;
+      step_2 = refl;
+      step_3 = refl;
+      step_4 = refl;
+      step_5 = refl;
+      step_6 = refl;
+      step_7 = refl;
+      step_8 = refl;
+      step_9 = refl;
+      step_10 = refl;
+      step_11 = refl;
     }
 
 pub steps_back : (dw s : List ℕ) → EqStepFigure dw s
-unfolding step stateAfter
+unfolding step state_after
 steps_back dw s =
     record {
-      step-0 = refl;
-      step-1 = refl;
-      step-2 = refl;
-      step-3 = refl;
-      step-4 = refl;
-      step-5 = refl;
-      step-6 = refl;
-      step-7 = refl;
-      step-8 = refl;
-      step-9 = refl;
-      step-10 = refl;
-      step-11 = refl;
+      step_0 = refl;
+      step_1 = refl;
+      step_2 = refl;
+      step_3 = refl;
+      step_4 = refl;
+      step_5 = refl;
+      step_6 = refl;
+      step_7 = refl;
+      step_8 = refl;
+      step_9 = refl;
+      step_10 = refl;
+      step_11 = refl;
     }

@@ -5,12 +5,12 @@ use mathlib.Core.Path.{◌≡◌, refl}
 use mathlib.Core.List.{List, [], ◌∷◌}
 use Prim.Native.Nat.{ℕ}
 use Rattle.octets.specs.Strings.{table}
-use Rattle.fips197.specs.Schedule.{roundsOf, subWord, rotWord, power, rcon, temp}
-use Rattle.fips197.specs.Steps.{addRoundKey, invSubBytes, invShiftRows, invMixColumns, subBytes, shiftRows, mixColumns}
-use Rattle.fips197.specs.Cipher.{rounds, cipherOver, invRounds, invCipherOver}
+use Rattle.fips197.specs.Schedule.{rounds_of, sub_word, rot_word, power, rcon, temp}
+use Rattle.fips197.specs.Steps.{add_round_key, inv_sub_bytes, inv_shift_rows, inv_mix_columns, sub_bytes, shift_rows, mix_columns}
+use Rattle.fips197.specs.Cipher.{rounds, cipher_over, inv_rounds, inv_cipher_over}
 
-rotated : (a b c d : ℕ) → rotWord (a ∷ b ∷ c ∷ d ∷ []) ≡ b ∷ c ∷ d ∷ a ∷ []
-unfolding rotWord table
+rotated : (a b c d : ℕ) → rot_word (a ∷ b ∷ c ∷ d ∷ []) ≡ b ∷ c ∷ d ∷ a ∷ []
+unfolding rot_word table
 rotated a b c d = refl
 
 first-rcon : rcon 1 ≡ 0x01 ∷ 0x00 ∷ 0x00 ∷ 0x00 ∷ []
@@ -18,19 +18,19 @@ unfolding rcon power
 first-rcon = refl
 
 -- eight key words alone have a SubWord at the fifth
-fifth-word : (t : List ℕ) → (temp 8 12 t ≡ subWord t) × (temp 6 10 t ≡ t)
+fifth_word : (t : List ℕ) → (temp 8 12 t ≡ sub_word t) × (temp 6 10 t ≡ t)
 unfolding temp
-fifth-word t = (refl, refl)
+fifth_word t = (refl, refl)
 
-round-numbers : (roundsOf 4 ≡ 10) × (roundsOf 6 ≡ 12) × (roundsOf 8 ≡ 14)
+round-numbers : (rounds_of 4 ≡ 10) × (rounds_of 6 ≡ 12) × (rounds_of 8 ≡ 14)
 round-numbers = (refl, refl, refl)
 
 three-rounds : (w s : List ℕ) →
-    cipherOver w 3 s ≡ addRoundKey w 3 (shiftRows (subBytes (addRoundKey w 2 (mixColumns (shiftRows (subBytes (addRoundKey w 1 (mixColumns (shiftRows (subBytes (addRoundKey w 0 s)))))))))))
+    cipher_over w 3 s ≡ add_round_key w 3 (shift_rows (sub_bytes (add_round_key w 2 (mix_columns (shift_rows (sub_bytes (add_round_key w 1 (mix_columns (shift_rows (sub_bytes (add_round_key w 0 s)))))))))))
 unfolding rounds
 three-rounds w s = refl
 
 three-rounds-back : (w s : List ℕ) →
-    invCipherOver w 3 s ≡ addRoundKey w 0 (invSubBytes (invShiftRows (invMixColumns (addRoundKey w 1 (invSubBytes (invShiftRows (invMixColumns (addRoundKey w 2 (invSubBytes (invShiftRows (addRoundKey w 3 s)))))))))))
-unfolding invRounds
+    inv_cipher_over w 3 s ≡ add_round_key w 0 (inv_sub_bytes (inv_shift_rows (inv_mix_columns (add_round_key w 1 (inv_sub_bytes (inv_shift_rows (inv_mix_columns (add_round_key w 2 (inv_sub_bytes (inv_shift_rows (add_round_key w 3 s)))))))))))
+unfolding inv_rounds
 three-rounds-back w s = refl

@@ -6,13 +6,13 @@ use Prim.Native.Nat.{ℕ, ◌+◌, ◌*◌, ◌/◌, ◌%◌, ◌<◌}
 use native.Mathlib.Omega.{arith}
 use lib.ListN.{length, get_or}
 use Rattle.octets.specs.Strings.{Bytes, Octets}
-use Rattle.octets.proofs.Strings.{byte_at, length-table, getD-table, table_is, bytes-table}
+use Rattle.octets.proofs.Strings.{byte_at, length-table, get_or-table, table_is, bytes-table}
 use Rattle.fips197.specs.State.{at, state}
 
 pub at-state : (f : ℕ → ℕ → ℕ) (r c : ℕ) → r < 4 → c < 4 → at (state f) r c ≡ f r c
 unfolding at state
 at-state f r c h k =
-    getD-table (λ i. f (i % 4) (i / 4)) 16 (r + 4 * c) (omega arith)
+    get_or-table (λ i. f (i % 4) (i / 4)) 16 (r + 4 * c) (omega arith)
     ∙ ap₂ f {x = (r + 4 * c) % 4} {y = r} {u = (r + 4 * c) / 4} {v = c} (omega arith) (omega arith)
 
 pub state-is : (f : ℕ → ℕ → ℕ) (s : List ℕ) → length s ≡ 16 → ((r c : ℕ) → r < 4 → c < 4 → f r c ≡ at s r c) → state f ≡ s

@@ -10,14 +10,14 @@ use Rattle.octets.specs.Strings.{Bytes, Octets, table}
 use Rattle.octets.specs.Xor.{xors}
 use Rattle.octets.specs.Blocks.{block}
 use Rattle.octets.proofs.Strings.{bytes_take, bytes_drop}
-use Rattle.octets.proofs.Xor.{length-xors, bytes-xors, xors-comm, xors-cancel, getD-xors}
+use Rattle.octets.proofs.Xor.{length-xors, bytes-xors, xors-comm, xors-cancel, get_or-xors}
 use Rattle.octets.proofs.Blocks.{length-block}
 use Rattle.field.specs.Field.{dot}
-use Rattle.field.specs.SBox.{sBox, invSBox}
-use Rattle.field.proofs.Rules.{sBox-byte, invSBox-byte, sBox-invSBox, invSBox-sBox}
-use Rattle.field.proofs.Columns.{Column, dot-byte, dot-xor, unmix-undoes, mix-undoes}
+use Rattle.field.specs.SBox.{s_box, inv_s_box}
+use Rattle.field.proofs.Rules.{s_box_byte, inv_s_box_byte, s_box-inv_s_box, inv_s_box-s_box}
+use Rattle.field.proofs.Columns.{Column, dot_byte, dot_xor, unmix-undoes, mix-undoes}
 use Rattle.fips197.specs.State.{at, state}
-use Rattle.fips197.specs.Steps.{subBytes, shiftRows, timesMatrix, mixColumns, addRoundKey, invSubBytes, invShiftRows, invMixColumns}
+use Rattle.fips197.specs.Steps.{sub_bytes, shift_rows, times_matrix, mix_columns, add_round_key, inv_sub_bytes, inv_shift_rows, inv_mix_columns}
 use Rattle.fips197.proofs.StateLaws.{at-state, state-is, at_byte, state-octets}
 
 -- ---- substitutions
@@ -31,43 +31,43 @@ substitution-undo f g law {s} o =
     state-is _ s o.size
     (λ r c h k. ap g (at-state (λ r c. f (at s r c)) r c h k) ∙ law (at s r c) (at_byte s o.small r c))
 
-pub subBytes-octets : (s : List ℕ) → Octets 16 (subBytes s)
-unfolding subBytes
-subBytes-octets s = state-octets _ (λ r c. sBox-byte (at s r c))
+pub sub_bytes-octets : (s : List ℕ) → Octets 16 (sub_bytes s)
+unfolding sub_bytes
+sub_bytes-octets s = state-octets _ (λ r c. s_box_byte (at s r c))
 
-pub invSubBytes-octets : (s : List ℕ) → Octets 16 (invSubBytes s)
-unfolding invSubBytes
-invSubBytes-octets s = state-octets _ (λ r c. invSBox-byte (at s r c))
+pub inv_sub_bytes-octets : (s : List ℕ) → Octets 16 (inv_sub_bytes s)
+unfolding inv_sub_bytes
+inv_sub_bytes-octets s = state-octets _ (λ r c. inv_s_box_byte (at s r c))
 
-pub invSubBytes-subBytes : {s : List ℕ} → Octets 16 s → invSubBytes (subBytes s) ≡ s
-unfolding subBytes invSubBytes substitution
-invSubBytes-subBytes o = substitution-undo sBox invSBox invSBox-sBox o
+pub inv_sub_bytes-sub_bytes : {s : List ℕ} → Octets 16 s → inv_sub_bytes (sub_bytes s) ≡ s
+unfolding sub_bytes inv_sub_bytes substitution
+inv_sub_bytes-sub_bytes o = substitution-undo s_box inv_s_box inv_s_box-s_box o
 
-pub subBytes-invSubBytes : {s : List ℕ} → Octets 16 s → subBytes (invSubBytes s) ≡ s
-unfolding subBytes invSubBytes substitution
-subBytes-invSubBytes o = substitution-undo invSBox sBox sBox-invSBox o
+pub sub_bytes-inv_sub_bytes : {s : List ℕ} → Octets 16 s → sub_bytes (inv_sub_bytes s) ≡ s
+unfolding sub_bytes inv_sub_bytes substitution
+sub_bytes-inv_sub_bytes o = substitution-undo inv_s_box s_box s_box-inv_s_box o
 
 -- ---- rows moved
 
-pub shiftRows-octets : {s : List ℕ} → Octets 16 s → Octets 16 (shiftRows s)
-unfolding shiftRows
-shiftRows-octets {s} o = state-octets _ (λ r c. at_byte s o.small r _)
+pub shift_rows-octets : {s : List ℕ} → Octets 16 s → Octets 16 (shift_rows s)
+unfolding shift_rows
+shift_rows-octets {s} o = state-octets _ (λ r c. at_byte s o.small r _)
 
-pub invShiftRows-octets : {s : List ℕ} → Octets 16 s → Octets 16 (invShiftRows s)
-unfolding invShiftRows
-invShiftRows-octets {s} o = state-octets _ (λ r c. at_byte s o.small r _)
+pub inv_shift_rows-octets : {s : List ℕ} → Octets 16 s → Octets 16 (inv_shift_rows s)
+unfolding inv_shift_rows
+inv_shift_rows-octets {s} o = state-octets _ (λ r c. at_byte s o.small r _)
 
-pub invShiftRows-shiftRows : {s : List ℕ} → Octets 16 s → invShiftRows (shiftRows s) ≡ s
-unfolding shiftRows invShiftRows
-invShiftRows-shiftRows {s} o =
+pub inv_shift_rows-shift_rows : {s : List ℕ} → Octets 16 s → inv_shift_rows (shift_rows s) ≡ s
+unfolding shift_rows inv_shift_rows
+inv_shift_rows-shift_rows {s} o =
     state-is _ s o.size
     (λ r c h k.
     at-state (λ r c. at s r ((c + r) % 4)) r ((c + 4 - r) % 4) h (omega arith)
     ∙ ap (at s r) {x = ((c + 4 - r) % 4 + r) % 4} {y = c} (omega arith))
 
-pub shiftRows-invShiftRows : {s : List ℕ} → Octets 16 s → shiftRows (invShiftRows s) ≡ s
-unfolding shiftRows invShiftRows
-shiftRows-invShiftRows {s} o =
+pub shift_rows-inv_shift_rows : {s : List ℕ} → Octets 16 s → shift_rows (inv_shift_rows s) ≡ s
+unfolding shift_rows inv_shift_rows
+shift_rows-inv_shift_rows {s} o =
     state-is _ s o.size
     (λ r c h k.
     at-state (λ r c. at s r ((c + 4 - r) % 4)) r ((c + r) % 4) h (omega arith)
@@ -109,65 +109,65 @@ module _
       inner c k 3 0 1 2 (omega arith) (omega arith) (omega arith) (omega arith) ∙ law _ _ _ _ (column 3 0 1 2 c)
   each (suc (suc (suc (suc r)))) c h k = absurd (omega arith)
 
-  matrix-undo : state (row N (state (row M s))) ≡ s
-  matrix-undo = state-is (row N (state (row M s))) s o.size each
+  matrix_undo : state (row N (state (row M s))) ≡ s
+  matrix_undo = state-is (row N (state (row M s))) s o.size each
 
-pub mixColumns-octets : (s : List ℕ) → Octets 16 (mixColumns s)
-unfolding mixColumns timesMatrix
-mixColumns-octets s = state-octets _ (λ r c. dot-byte _ _ _ _ _ _ _ _ (omega arith))
+pub mix_columns-octets : (s : List ℕ) → Octets 16 (mix_columns s)
+unfolding mix_columns times_matrix
+mix_columns-octets s = state-octets _ (λ r c. dot_byte _ _ _ _ _ _ _ _ (omega arith))
 
-pub invMixColumns-octets : (s : List ℕ) → Octets 16 (invMixColumns s)
-unfolding invMixColumns timesMatrix
-invMixColumns-octets s = state-octets _ (λ r c. dot-byte _ _ _ _ _ _ _ _ (omega arith))
+pub inv_mix_columns-octets : (s : List ℕ) → Octets 16 (inv_mix_columns s)
+unfolding inv_mix_columns times_matrix
+inv_mix_columns-octets s = state-octets _ (λ r c. dot_byte _ _ _ _ _ _ _ _ (omega arith))
 
-pub invMixColumns-mixColumns : {s : List ℕ} → Octets 16 s → invMixColumns (mixColumns s) ≡ s
-unfolding mixColumns invMixColumns timesMatrix row
-invMixColumns-mixColumns {s} o = matrix-undo (dot 2 3 1 1) (dot 0x0e 0x0b 0x0d 0x09) (λ a b c d. unmix-undoes) s o
+pub inv_mix_columns-mix_columns : {s : List ℕ} → Octets 16 s → inv_mix_columns (mix_columns s) ≡ s
+unfolding mix_columns inv_mix_columns times_matrix row
+inv_mix_columns-mix_columns {s} o = matrix_undo (dot 2 3 1 1) (dot 0x0e 0x0b 0x0d 0x09) (λ a b c d. unmix-undoes) s o
 
-pub mixColumns-invMixColumns : {s : List ℕ} → Octets 16 s → mixColumns (invMixColumns s) ≡ s
-unfolding mixColumns invMixColumns timesMatrix row
-mixColumns-invMixColumns {s} o = matrix-undo (dot 0x0e 0x0b 0x0d 0x09) (dot 2 3 1 1) (λ a b c d. mix-undoes) s o
+pub mix_columns-inv_mix_columns : {s : List ℕ} → Octets 16 s → mix_columns (inv_mix_columns s) ≡ s
+unfolding mix_columns inv_mix_columns times_matrix row
+mix_columns-inv_mix_columns {s} o = matrix_undo (dot 0x0e 0x0b 0x0d 0x09) (dot 2 3 1 1) (λ a b c d. mix-undoes) s o
 
 -- InvMixColumns of a sum is the sum of what it makes of each
 at-xors : (a b : List ℕ) → length a ≡ 16 → length b ≡ 16 → (r c : ℕ) → r < 4 → c < 4 → at (xors a b) r c ≡ bit_xor (at a r c) (at b r c)
 unfolding at
-at-xors a b p q r c h k = getD-xors a b (r + 4 * c) (omega arith) (omega arith)
+at-xors a b p q r c h k = get_or-xors a b (r + 4 * c) (omega arith) (omega arith)
 
-pub invMixColumns-xors : (a b : List ℕ) → length a ≡ 16 → length b ≡ 16 → invMixColumns (xors a b) ≡ xors (invMixColumns a) (invMixColumns b)
-unfolding invMixColumns timesMatrix
-invMixColumns-xors a b p q =
-    state-is _ (xors (invMixColumns a) (invMixColumns b)) (length-xors (invMixColumns a) (invMixColumns b) ∙ omega (arith, sizes a, sizes b))
+pub inv_mix_columns-xors : (a b : List ℕ) → length a ≡ 16 → length b ≡ 16 → inv_mix_columns (xors a b) ≡ xors (inv_mix_columns a) (inv_mix_columns b)
+unfolding inv_mix_columns times_matrix
+inv_mix_columns-xors a b p q =
+    state-is _ (xors (inv_mix_columns a) (inv_mix_columns b)) (length-xors (inv_mix_columns a) (inv_mix_columns b) ∙ omega (arith, sizes a, sizes b))
     (λ r c h k.
     rw
     (sum r c h k, sum ((r + 1) % 4) c (omega arith) k, sum ((r + 2) % 4) c (omega arith) k, sum ((r + 3) % 4) c (omega arith) k)
-    (dot-xor _ _ _ _ _ _ _ _ _ _ _ _
-    ∙ sym (at-xors (invMixColumns a) (invMixColumns b) (sizes a) (sizes b) r c h k ∙ ap₂ bit_xor (at-state _ r c h k) (at-state _ r c h k))))
+    (dot_xor _ _ _ _ _ _ _ _ _ _ _ _
+    ∙ sym (at-xors (inv_mix_columns a) (inv_mix_columns b) (sizes a) (sizes b) r c h k ∙ ap₂ bit_xor (at-state _ r c h k) (at-state _ r c h k))))
   where
     sum : (r c : ℕ) → r < 4 → c < 4 → at (xors a b) r c ≡ bit_xor (at a r c) (at b r c)
     sum = at-xors a b p q
 
-    sizes : (s : List ℕ) → length (invMixColumns s) ≡ 16
-    sizes s = (invMixColumns-octets s).size
+    sizes : (s : List ℕ) → length (inv_mix_columns s) ≡ 16
+    sizes s = (inv_mix_columns-octets s).size
 
 -- InvSubBytes and InvShiftRows in either order
-pub inverses-commute : (s : List ℕ) → invShiftRows (invSubBytes s) ≡ invSubBytes (invShiftRows s)
-unfolding invShiftRows invSubBytes state at table
-inverses-commute s = refl
+pub inverses_commute : (s : List ℕ) → inv_shift_rows (inv_sub_bytes s) ≡ inv_sub_bytes (inv_shift_rows s)
+unfolding inv_shift_rows inv_sub_bytes state at table
+inverses_commute s = refl
 
 -- ---- round keys, of a schedule that is long enough
 
 module _ (w : List ℕ) (n : ℕ) (room : 16 * suc n ≤ length w) {s : List ℕ} (o : Octets 16 s) where
-  pub addRoundKey-octets : Bytes w → Octets 16 (addRoundKey w n s)
-  unfolding addRoundKey
-  addRoundKey-octets b =
+  pub add_round_key-octets : Bytes w → Octets 16 (add_round_key w n s)
+  unfolding add_round_key
+  add_round_key-octets b =
       record {
         size = length-xors s (block 16 w n) ∙ omega (arith, o.size, length-block 16 w n room);
         small = bytes-xors s (block 16 w n) o.small (bytes_take 16 (drop (16 * n) w) (bytes_drop (16 * n) w b));
       }
 
-  pub addRoundKey-twice : addRoundKey w n (addRoundKey w n s) ≡ s
-  unfolding addRoundKey
-  addRoundKey-twice =
+  pub add_round_key-twice : add_round_key w n (add_round_key w n s) ≡ s
+  unfolding add_round_key
+  add_round_key-twice =
       xors-comm (xors s (block 16 w n)) (block 16 w n)
       ∙ ap (xors (block 16 w n)) (xors-comm s (block 16 w n))
       ∙ xors-cancel (block 16 w n) s (omega (arith, o.size, length-block 16 w n room))

@@ -1,9 +1,9 @@
 // The hub program: standard input in large chunks, standard output in large writes. Every byte that it
 // writes is decided by `hub_run`, which says of each chunk what it adds to the output.
 ghost use Rattle.std.specs.Prelude.{◌≡◌, false, ◌≤◌, length, take};
-ghost use Rattle.hub_run.specs.Values.{endRoom, state_of, Sound};
+ghost use Rattle.hub_run.specs.Values.{end_room, state_of, Sound};
 ghost use Rattle.hub.specs.Follows.{Small, Follows, Reached};
-ghost use Rattle.hub_rules.specs.Stream.{lineRoom, lineKept, isDone};
+ghost use Rattle.hub_rules.specs.Stream.{line_room, line_kept, is_done};
 
 use hub_run::Hub;
 use libc::{STDIN_FILENO, STDOUT_FILENO};
@@ -33,7 +33,7 @@ fn write(out: &[u8], n: usize) -> usize
 
 // Feeds a chunk and writes what it says, piece by piece where the output is longer than its buffer.
 fn say(h: Hub, line: &mut [u8], chunk: &[u8], out: &mut [u8]) -> Going
-    requires line_room_in_bounds { (lineRoom ≤ length out.old) × Small out.old × Small chunk.now }
+    requires line_room_in_bounds { (line_room ≤ length out.old) × Small out.old × Small chunk.now }
     requires sound { Sound h line.old }
     ensures { Follows h line.old chunk.now result line.new }
 {
@@ -81,8 +81,8 @@ fn nothing(h: Hub, more: bool) -> Going
 // One read, and what it says: the state after the bytes that it read, which are the first of input. A
 // read that was interrupted is done again; any other that fails ends the input.
 fn read_some(h: Hub, input: &mut [u8], line: &mut [u8], out: &mut [u8]) -> Going
-    requires line_room_in_bounds { (lineRoom ≤ length out.old) × Small out.old × Small input.old }
-    requires sound { Sound h line.old × (isDone (state_of h line.old) ≡ false) }
+    requires line_room_in_bounds { (line_room ≤ length out.old) × Small out.old × Small input.old }
+    requires sound { Sound h line.old × (is_done (state_of h line.old) ≡ false) }
     ensures { Follows h line.old (take result.read input.new) result line.new }
 {
     let got = libc::read(STDIN_FILENO, input);
@@ -99,7 +99,7 @@ fn read_some(h: Hub, input: &mut [u8], line: &mut [u8], out: &mut [u8]) -> Going
 // Reads until the input ends, no more of it counts, or a write fails. A proved loop has to end, and
 // nothing says that an input does, so it counts its turns down from a number that no run uses up.
 fn read_all(input: &mut [u8], line: &mut [u8], out: &mut [u8]) -> Going
-    requires line_kept_in_bounds { (lineKept ≤ length line.old) × (lineRoom ≤ length out.old) }
+    requires line_kept_in_bounds { (line_kept ≤ length line.old) × (line_room ≤ length out.old) }
     requires small { Small out.old × Small input.old }
     ensures { Reached result line.new }
 {
@@ -118,7 +118,7 @@ fn read_all(input: &mut [u8], line: &mut [u8], out: &mut [u8]) -> Going
 
 // What is said at the end of the input.
 fn end(h: Hub, line: &[u8], out: &mut [u8])
-    requires { (endRoom ≤ length out.old) × Sound h line.now }
+    requires { (end_room ≤ length out.old) × Sound h line.now }
 {
     let n = hub_run::finish(h, line, out);
     write(out, n);
@@ -126,7 +126,7 @@ fn end(h: Hub, line: &[u8], out: &mut [u8])
 
 // The heading, what the input says, and the end.
 fn run(input: &mut [u8], line: &mut [u8], out: &mut [u8])
-    requires line_kept_in_bounds { (lineKept ≤ length line.old) × (endRoom ≤ length out.old) }
+    requires line_kept_in_bounds { (line_kept ≤ length line.old) × (end_room ≤ length out.old) }
     requires small { Small out.old × Small input.old }
 {
     let n = hub_run::put_heading(out);

@@ -6,13 +6,13 @@ use Prim.Native.Nat.{ℕ, ◌+◌, ◌*◌, ◌≤◌}
 use native.Mathlib.Omega.{arith}
 use Rattle.text.specs.Numerals.{decimal, shown}
 use Rattle.text.specs.Writing.{Puts}
-use Rattle.hub_rules.specs.Answers.{lineText}
+use Rattle.hub_rules.specs.Answers.{line_text}
 
-line-is : (n a : ℕ) (s : List ℕ) → ((decimal n ++ (32 ∷ decimal a)) ++ (32 ∷ shown s)) ++ (10 ∷ []) ≡ lineText n a s
-unfolding lineText
+line-is : (n a : ℕ) (s : List ℕ) → ((decimal n ++ (32 ∷ decimal a)) ++ (32 ∷ shown s)) ++ (10 ∷ []) ≡ line_text n a s
+unfolding line_text
 line-is n a s = simp append_assoc
 
-pub line-written : (n a r : ℕ) (s d out : List ℕ) → Puts (((decimal n ++ (32 ∷ decimal a)) ++ (32 ∷ shown s)) ++ (10 ∷ [])) r d out → Puts (lineText n a s) r d out
+pub line-written : (n a r : ℕ) (s d out : List ℕ) → Puts (((decimal n ++ (32 ∷ decimal a)) ++ (32 ∷ shown s)) ++ (10 ∷ [])) r d out → Puts (line_text n a s) r d out
 line-written n a r s d out w = subst (λ (t : List ℕ). Puts t r d out) (line-is n a s) w
 
 -- a line's strings go in, one after the other: m is how long the output is by then

@@ -2,35 +2,35 @@
 -- Assumes nothing.
 use Rattle.std.specs.Prelude.{◌≡◌, Bool, true, false, cond, List, ℕ, ◌+◌, ◌-◌, ◌≤◌, length, take}
 use Rattle.cba_mode.specs.Sets.{is_set}
-use Rattle.cba_rules.specs.Checks.{setTag}
+use Rattle.cba_rules.specs.Checks.{set_tag}
 use Rattle.cba_rules.specs.Refusals.{SealCall, OpenCall}
 use Rattle.hub_text.specs.declared.request.Asked.{Asked}
 use Rattle.hub_answer.specs.declared.answer.Reply.{Reply}
 use Rattle.hub_answer.specs.declared.answer.Answer.{Answer}
 use Rattle.text.specs.Writing.{Puts}
 use Rattle.hub_grammar.specs.Lines.{Request, Parsed, parse}
-use Rattle.hub_rules.specs.Answers.{answer_of, result_of, acceptedSet, line_for}
-use Rattle.hub_text.specs.Requests.{bytesRoom}
+use Rattle.hub_rules.specs.Answers.{answer_of, result_of, accepted_set, line_for}
+use Rattle.hub_text.specs.Requests.{bytes_room}
 
 -- room for a result: a sealing is longer than its message by at most 16 bytes
-abbrev pub resultRoom : ℕ
-resultRoom = bytesRoom + 16
+abbrev pub result_room : ℕ
+result_room = bytes_room + 16
 
 -- the strings of an Asked stand in b, one after the other
 abbrev pub InOrder : Asked → List ℕ → Type 0
 InOrder a b = (a.key ≤ a.nonce) × (a.nonce ≤ a.ad) × (a.ad ≤ a.text) × (a.text ≤ length b)
 
 -- how many bytes an accepted request's result has, whose text has n: a sealing is longer by the tag, a message shorter
-abbrev pub resultBytes : Bool → ℕ → ℕ → ℕ
-resultBytes seals set n = cond seals (n + setTag set) (n - setTag set)
+abbrev pub result_bytes : Bool → ℕ → ℕ → ℕ
+result_bytes seals set n = cond seals (n + set_tag set) (n - set_tag set)
 
-abbrev pub resultLength : Request → ℕ
-resultLength q = resultBytes q.seals q.set (length q.text)
+abbrev pub result_length : Request → ℕ
+result_length q = result_bytes q.seals q.set (length q.text)
 
 -- a set, and a text that has room for its tag if it is opened
 pub record Sized (seals : Bool) (set n : ℕ) : Type 0 where
   pub is-set : is_set set ≡ true
-  pub long : seals ≡ false → setTag set ≤ n
+  pub long : seals ≡ false → set_tag set ≤ n
 
 -- the plain call that a request asks for: its answer r, and the output at exit, out', out being the output at entry
 pub record Called (q : Request) (out : List ℕ) (r : ℕ) (out' : List ℕ) : Type 0 where
@@ -44,11 +44,11 @@ Refused a r = (r.answer ≡ a) × (r.set ≡ 0) × (r.size ≡ 0)
 -- r is what a line is answered, its result being the first bytes of b
 pub record Replies (p : Parsed) (r : Reply) (b : List ℕ) : Type 0 where
   pub answer-is : r.answer ≡ answer_of p
-  pub set_is : r.set ≡ acceptedSet p
+  pub set_is : r.set ≡ accepted_set p
   pub fits : r.size ≤ length b
-  pub result-is : take r.size b ≡ result_of p
+  pub result_is : take r.size b ≡ result_of p
 
 -- the line of output over the first bytes of d
 pub record Answers (n : ℕ) (s : List ℕ) (r : Answer) (d out : List ℕ) : Type 0 where
-  pub set_is : r.set ≡ acceptedSet (parse s)
+  pub set_is : r.set ≡ accepted_set (parse s)
   pub line-is : Puts (line_for n s) r.written d out

@@ -1,11 +1,11 @@
 // What a line is answered.
 ghost use Rattle.std.specs.Prelude.{◌≡◌, true, ◌≤◌, ◌<◌, length};
 ghost use Rattle.cba_mode.specs.Sets.{is_set};
-ghost use Rattle.cba_rules.specs.Checks.{setTag};
+ghost use Rattle.cba_rules.specs.Checks.{set_tag};
 ghost use Rattle.hub_grammar.specs.Lines.{parse};
-ghost use Rattle.hub_text.specs.Requests.{bytesRoom, requestOf};
-ghost use Rattle.hub_answer.specs.Replies.{resultRoom, InOrder, resultBytes, Sized, Called, Refused, Replies, Answers};
-ghost use Rattle.hub_rules.specs.Stream.{lineRoom};
+ghost use Rattle.hub_text.specs.Requests.{bytes_room, request_of};
+ghost use Rattle.hub_answer.specs.Replies.{result_room, InOrder, result_bytes, Sized, Called, Refused, Replies, Answers};
+ghost use Rattle.hub_rules.specs.Stream.{line_room};
 
 use crate::line::put_line;
 use hub_text::{Asked, BYTES_ROOM, LINE_LIMIT, read_line, word};
@@ -31,7 +31,7 @@ pub struct Answer {
 // The plain call that a request asks for, with result as its output.
 fn call(a: Asked, bytes: &[u8], res: &mut [u8]) -> u32
     requires { InOrder a bytes.now }
-    ensures { Called (requestOf a bytes.now) res.old result res.new }
+    ensures { Called (request_of a bytes.now) res.old result res.new }
 {
     let key = word(bytes, 0, a.key);
     let nonce = word(bytes, a.key, a.nonce);
@@ -46,7 +46,7 @@ fn call(a: Asked, bytes: &[u8], res: &mut [u8]) -> u32
 // How many bytes a set's tag has.
 fn set_tag(set: u32) -> usize
     requires { is_set set ≡ true }
-    ensures { result ≡ setTag set }
+    ensures { result ≡ set_tag set }
 {
     let plain::Set::Known(p) = plain::lookup(set) else {
         return 0;
@@ -57,8 +57,8 @@ fn set_tag(set: u32) -> usize
 // How many bytes an accepted request's result has, by how many its text has.
 fn result_bytes(seals: bool, set: u32, text: usize) -> usize
     requires sized { Sized seals set text }
-    requires text_le_bytes_room { text ≤ bytesRoom }
-    ensures { result ≡ resultBytes seals set text }
+    requires text_le_bytes_room { text ≤ bytes_room }
+    ensures { result ≡ result_bytes seals set text }
 {
     let t = set_tag(set);
     if seals {
@@ -86,7 +86,7 @@ fn malformed() -> Reply
 
 // The answer to a line of any length, its result over the first bytes of result.
 fn reply_to(line: &[u8], res: &mut [u8]) -> Reply
-    requires { resultRoom ≤ length res.old }
+    requires { result_room ≤ length res.old }
     ensures { Replies (parse line.now) result res.new }
 {
     if line.len() > LINE_LIMIT {
@@ -110,7 +110,7 @@ fn reply_to(line: &[u8], res: &mut [u8]) -> Reply
 
 // Answers a line, the n-th after the first: its line of output over the first bytes of out.
 pub fn answer_line(n: u32, line: &[u8], out: &mut [u8]) -> Answer
-    requires { (n < 100000) × (lineRoom ≤ length out.old) }
+    requires { (n < 100000) × (line_room ≤ length out.old) }
     ensures { Answers n line.now result out.old out.new }
 {
     let mut result = [0u8; RESULT_ROOM];

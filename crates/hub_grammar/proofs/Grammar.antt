@@ -11,8 +11,8 @@ use lib.Seq.{drop-cons}
 use borrow.Author.Tests.{leb-true, eqb-true, le-leb, lt-leb}
 use Rattle.octets.specs.Strings.{Bytes, eqs}
 use Rattle.octets.proofs.Tests.{eqs→eq}
-use Rattle.text.specs.Numerals.{decimal, isSetNumber, hex, shown, is_value}
-use Rattle.hub_grammar.specs.Lines.{lineLimit, sealWord, openWord, Request, Parsed, spaced, written, Writable, words_of, fromSix, fromWords, parse, Grammar}
+use Rattle.text.specs.Numerals.{decimal, is_set_number, hex, shown, is_value}
+use Rattle.hub_grammar.specs.Lines.{line_limit, seal_word, open_word, Request, Parsed, spaced, written, Writable, words_of, from_six, from_words, parse, Grammar}
 use Rattle.hub_grammar.specs.Lines.Parsed.{asked, malformed}
 use Rattle.hub_grammar.proofs.WordLaws.{Solids, words-spaced, spaced-words}
 use Rattle.text.proofs.HexLaws.{length-hex}
@@ -20,7 +20,7 @@ use Rattle.text.proofs.NumeralLaws.{Solid, both, set_back, set-number, value-bac
 
 -- the words that a request is written as
 abbrev act : Bool → List ℕ
-act b = cond b sealWord openWord
+act b = cond b seal_word open_word
 
 abbrev others : Request → List (List ℕ)
 others r = decimal r.set ∷ shown r.key ∷ shown r.nonce ∷ shown r.ad ∷ shown r.text ∷ []
@@ -31,12 +31,12 @@ act-solid : (b : Bool) → Solid (act b)
 act-solid true = (omega arith, (omega arith, (omega arith, (omega arith, tt))))
 act-solid false = (omega arith, (omega arith, (omega arith, (omega arith, tt))))
 
-act-back : (b : Bool) → (eqs (act b) sealWord || eqs (act b) openWord ≡ true) × (eqs (act b) sealWord ≡ b)
+act-back : (b : Bool) → (eqs (act b) seal_word || eqs (act b) open_word ≡ true) × (eqs (act b) seal_word ≡ b)
 act-back true = (refl, refl)
 act-back false = (refl, refl)
 
 reads : (r : Request) → Writable r → parse (written r) ≡ asked r
-unfolding written fromSix fromWords parse
+unfolding written from_six from_words parse
 reads r w =
     let a = act-back r.seals in
     let n = set_back r.set w.set-most in
@@ -45,7 +45,7 @@ reads r w =
     let h = value-back r.ad w.ad-bytes in
     let t = value-back r.text w.text-bytes in
     let solids : Solids (others r) = ((set-number _ n.0).solid, ((value _ k.0).solid, ((value _ o.0).solid, ((value _ h.0).solid, ((value _ t.0).solid, tt))))) in
-    rw (le-leb (length (written r)) lineLimit w.line-most, words-spaced (act r.seals) (others r) (act-solid r.seals) solids)
+    rw (le-leb (length (written r)) line_limit w.line-most, words-spaced (act r.seals) (others r) (act-solid r.seals) solids)
     (rw (a.0, a.1, n.0, n.1, k.0, k.1, o.0, o.1, h.0, h.1, t.0, t.1))
 
 -- ---- what is read was written so
@@ -71,25 +71,25 @@ each a b c d e f h =
     let t = both a b s.0 in
     (t.0, t.1, s.1, r.1, q.1, p.1)
 
-act-word : (a : List ℕ) → eqs a sealWord || eqs a openWord ≡ true → act (eqs a sealWord) ≡ a
-act-word a h = go (eqs a sealWord) refl h
+act-word : (a : List ℕ) → eqs a seal_word || eqs a open_word ≡ true → act (eqs a seal_word) ≡ a
+act-word a h = go (eqs a seal_word) refl h
   where
-    go : (b : Bool) → eqs a sealWord ≡ b → b || eqs a openWord ≡ true → act b ≡ a
-    go true e k = sym (eqs→eq a sealWord (subst T (sym e) tt))
-    go false e k = sym (eqs→eq a openWord (subst T (sym k) tt))
+    go : (b : Bool) → eqs a seal_word ≡ b → b || eqs a open_word ≡ true → act b ≡ a
+    go true e k = sym (eqs→eq a seal_word (subst T (sym e) tt))
+    go false e k = sym (eqs→eq a open_word (subst T (sym k) tt))
 
 -- a request with these words
-request : (s : List ℕ) (r : Request) → length s ≤ lineLimit → r.set ≤ 999 → Bytes r.key → Bytes r.nonce → Bytes r.ad →
+request : (s : List ℕ) (r : Request) → length s ≤ line_limit → r.set ≤ 999 → Bytes r.key → Bytes r.nonce → Bytes r.ad →
     Bytes r.text → written r ≡ s → Reads s (asked r)
 request s r l m k o h t e =
     (record { set-most = m; key-bytes = k; nonce-bytes = o; ad-bytes = h; text-bytes = t; line-most = rw e l }, e)
 
-six-read : (s a n k o h t : List ℕ) → length s ≤ lineLimit → spaced (a ∷ n ∷ k ∷ o ∷ h ∷ t ∷ []) ≡ 32 ∷ s → Reads s (fromSix a n k o h t)
-unfolding fromSix written spaced
+six-read : (s a n k o h t : List ℕ) → length s ≤ line_limit → spaced (a ∷ n ∷ k ∷ o ∷ h ∷ t ∷ []) ≡ 32 ∷ s → Reads s (from_six a n k o h t)
+unfolding from_six written spaced
 six-read s a n k o h t l e =
     passed s _ _
     (λ b.
-    let p = each (eqs a sealWord || eqs a openWord) (isSetNumber n) (is_value k) (is_value o) (is_value h) (is_value t) b in
+    let p = each (eqs a seal_word || eqs a open_word) (is_set_number n) (is_value k) (is_value o) (is_value h) (is_value t) b in
     let set = set-number n p.1 in
     let key = value k p.2 in
     let nonce = value o p.3 in
@@ -113,21 +113,21 @@ six ws e =
     ))
 
 line_read : (s : List ℕ) → Reads s (parse s)
-unfolding parse fromWords
+unfolding parse from_words
 line_read s =
     passed s _ _
     (λ l.
     passed s _ _
     (λ e.
-    six-read s _ _ _ _ _ _ (leb-true (length s) lineLimit l) (ap spaced (six (words_of s) (eqb-true (length (words_of s)) 6 e)) ∙ spaced-words s)))
+    six-read s _ _ _ _ _ _ (leb-true (length s) line_limit l) (ap spaced (six (words_of s) (eqb-true (length (words_of s)) 6 e)) ∙ spaced-words s)))
 
 pub grammar : Grammar
 grammar = record { reads = reads; only = λ s r e. subst (Reads s) e (line_read s) }
 
 -- a line of more bytes is malformed
-pub parse-long : (s : List ℕ) → lineLimit < length s → parse s ≡ malformed
+pub parse-long : (s : List ℕ) → line_limit < length s → parse s ≡ malformed
 unfolding parse
-parse-long s h = rw (lt-leb (length s) lineLimit h)
+parse-long s h = rw (lt-leb (length s) line_limit h)
 
 -- ---- how long a value can be
 

@@ -9,10 +9,10 @@ use native.Mathlib.Omega.{arith}
 use borrow.Author.Tests.{eqb-true, eqb-false}
 use lib.Dec.{eqb}
 use native.Mathlib.Nat.{le_antisymm}
-use Rattle.octets.proofs.Tests.{le-or-lt}
+use Rattle.octets.proofs.Tests.{le_or_lt}
 use Rattle.text.specs.Numerals.{decimal}
-use Rattle.hub_rules.specs.Whole.{lastLine, firstLine, heading, summaryHead, lines_of, at_most, answersFrom, count_for, rowFor, rows_from, afterFirst, outputOf, hub}
-use Rattle.hub_rules.specs.Summary.{Count, rowsText, RisingFrom, Holds, Rows, Summed, Summary}
+use Rattle.hub_rules.specs.Whole.{last_line, first_line, heading, summary_head, lines_of, at_most, answers_from, count_for, row_for, rows_from, after_the_first, output_of, hub}
+use Rattle.hub_rules.specs.Summary.{Count, rows_text, RisingFrom, Holds, Rows, Summed, Summary}
 
 module _ (read : List (List ℕ)) where
   row : ℕ → Count
@@ -25,13 +25,13 @@ module _ (read : List (List ℕ)) where
 
   -- what is said of them
   record From (k s : ℕ) (rs : List Count) : Type 0 where
-    text : rowsText rs ≡ rows_from k s read
+    text : rows_text rs ≡ rows_from k s read
     rising : (n : ℕ) → n < s → RisingFrom n rs
     only : (r : Count) → Holds rs r → (s ≤ r.set) × (r.set < s + k) × (r.lines ≡ count_for r.set read) × (r.lines ≡ 0 → ⊥)
     each : (i : ℕ) → s ≤ i → i < s + k → (count_for i read ≡ 0 → ⊥) → Holds rs (row i)
 
   from : (k s : ℕ) → From k s (rows k s)
-  unfolding rows rowsText rows_from rowFor row
+  unfolding rows rows_text rows_from row_for row
   from zero s =
       record {
         text = refl;
@@ -51,7 +51,7 @@ module _ (read : List (List ℕ)) where
             each = λ i h g z.
                 ⊎_elim
                 (λ (l : i ≤ s). absurd (z (ap (λ (j : ℕ). count_for j read) (le_antisymm l h) ∙ eqb-true (count_for s read) 0 e)))
-                (λ (l : s < i). f.each i (omega (arith, l)) (omega (arith, g)) z) (le-or-lt i s);
+                (λ (l : s < i). f.each i (omega (arith, l)) (omega (arith, g)) z) (le_or_lt i s);
           })
       go f false e =
           rw e
@@ -65,16 +65,16 @@ module _ (read : List (List ℕ)) where
             each = λ i h g z.
                 ⊎_elim
                 (λ (l : i ≤ s). inl (ap row (le_antisymm l h)))
-                (λ (l : s < i). inr (f.each i (omega (arith, l)) (omega (arith, g)) z)) (le-or-lt i s);
+                (λ (l : s < i). inr (f.each i (omega (arith, l)) (omega (arith, g)) z)) (le_or_lt i s);
           })
         where
           Kept : Count → Type 0
           Kept r = (s ≤ r.set) × (r.set < s + suc k) × (r.lines ≡ count_for r.set read) × (r.lines ≡ 0 → ⊥)
 
 pub summary : Summary
-unfolding hub outputOf afterFirst row
+unfolding hub output_of after_the_first row
 summary input ls e =
-    let read = at_most lastLine ls in
+    let read = at_most last_line ls in
     let f = from read 10 1 in
     record {
       rows = rows read 10 1;
@@ -85,6 +85,6 @@ summary input ls e =
             each = λ i h g z. f.each i h (omega (arith, g)) z;
           };
       output-is =
-          ap (λ (x : List (List ℕ)). heading ++ outputOf x) e
-          ∙ ap (λ (t : List ℕ). heading ++ (answersFrom 1 read ++ (summaryHead ++ t))) (sym f.text);
+          ap (λ (x : List (List ℕ)). heading ++ output_of x) e
+          ∙ ap (λ (t : List ℕ). heading ++ (answers_from 1 read ++ (summary_head ++ t))) (sym f.text);
     }

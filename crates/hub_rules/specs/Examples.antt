@@ -56,6 +56,6 @@ lines =
     ∷ line 11 "seal 11 - - - --"
     ∷ []
 
-unfoldable pub linesSo : List Line → Bool
-linesSo [] = true
-linesSo (l ∷ ls) = eqb (answer_of (parse (bytes_of l.text))) l.answer && linesSo ls
+unfoldable pub lines_so : List Line → Bool
+lines_so [] = true
+lines_so (l ∷ ls) = eqb (answer_of (parse (bytes_of l.text))) l.answer && lines_so ls

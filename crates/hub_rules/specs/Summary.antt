@@ -2,7 +2,7 @@
 -- Assumes nothing.
 use Rattle.std.specs.Prelude.{◌≡◌, List, [], ◌∷◌, ◌++◌, ◌⊎◌, ℕ, ◌<◌, ◌≤◌}
 use Rattle.text.specs.Numerals.{decimal}
-use Rattle.hub_rules.specs.Whole.{firstLine, heading, summaryHead, lines_of, at_most, answersFrom, count_for, hub}
+use Rattle.hub_rules.specs.Whole.{first_line, heading, summary_head, lines_of, at_most, answers_from, count_for, hub}
 
 -- a row: a set, and how many lines it accepted
 pub record Count : Type 0 where
@@ -10,9 +10,9 @@ pub record Count : Type 0 where
   pub lines : ℕ
 
 -- a row's text: set, one space, count, in decimal, and LF
-unfoldable pub rowsText : List Count → List ℕ
-rowsText [] = []
-rowsText (r ∷ rs) = (decimal r.set ++ ((32 ∷ decimal r.lines) ++ (10 ∷ []))) ++ rowsText rs
+unfoldable pub rows_text : List Count → List ℕ
+rows_text [] = []
+rows_text (r ∷ rs) = (decimal r.set ++ ((32 ∷ decimal r.lines) ++ (10 ∷ []))) ++ rows_text rs
 
 -- the sets rise strictly, the first above n
 abbrev pub RisingFrom : ℕ → List Count → Type 0
@@ -37,7 +37,7 @@ pub record Rows (read : List (List ℕ)) (rows : List Count) : Type 0 where
 pub record Summed (input : List ℕ) (ls : List (List ℕ)) : Type 0 where
   pub rows : List Count
   pub are : Rows (at_most 9999 ls) rows
-  pub output-is : hub input ≡ heading ++ (answersFrom 1 (at_most 9999 ls) ++ (summaryHead ++ rowsText rows))
+  pub output-is : hub input ≡ heading ++ (answers_from 1 (at_most 9999 ls) ++ (summary_head ++ rows_text rows))
 
 abbrev pub Summary : Type 0
-Summary = (input : List ℕ) (ls : List (List ℕ)) → lines_of input ≡ firstLine ∷ ls → Summed input ls
+Summary = (input : List ℕ) (ls : List (List ℕ)) → lines_of input ≡ first_line ∷ ls → Summed input ls

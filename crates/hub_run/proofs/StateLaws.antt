@@ -12,23 +12,23 @@ use lib.Seq.{length-take-le}
 use lib.ListN.{length, take, get_or, replicate}
 use Rattle.octets.specs.Strings.{eqs}
 use Rattle.hub_grammar.specs.Lines.{parse}
-use Rattle.hub_rules.specs.Answers.{acceptedSet, line_for}
+use Rattle.hub_rules.specs.Answers.{accepted_set, line_for}
 use Rattle.text.specs.Writing.{Puts}
 use Rattle.hub_run.specs.declared.state.Hub.{Hub}
-use Rattle.hub_rules.specs.Whole.{lastLine, firstLine, wrongFirst}
-use Rattle.hub_rules.specs.Stream.{begin, isDone, counted, ended, endSays, pending}
+use Rattle.hub_rules.specs.Whole.{last_line, first_line, wrong_first}
+use Rattle.hub_rules.specs.Stream.{begin, is_done, counted, ended, end_says, pending}
 use Rattle.hub_run.specs.Values.{state_of, Below, Sound, Begins, IsOver, IsPending, Goes}
 use Rattle.hub_rules.proofs.StreamLaws.{counted-most}
-use Rattle.octets.proofs.Tests.{le-or-lt}
+use Rattle.octets.proofs.Tests.{le_or_lt}
 
 -- ---- the tests
 
 pub over-wrong : (h : Hub) → h.wrong ≡ true → IsOver h true
-unfolding isDone
+unfolding is_done
 over-wrong h e line = rw e refl
 
-pub over-lines : (h : Hub) → h.wrong ≡ false → IsOver h (eqb h.lines (lastLine + 1))
-unfolding isDone
+pub over-lines : (h : Hub) → h.wrong ≡ false → IsOver h (eqb h.lines (last_line + 1))
+unfolding is_done
 over-lines h e line = rw e refl
 
 pub pending-over : (h : Hub) → IsOver h true → IsPending h false
@@ -56,10 +56,10 @@ begins line h = (record { room = h; line-most = omega arith; lines-most = omega 
 
 -- ---- a line's end
 
-pub goes_first : (h : Hub) (line d out : List ℕ) (b : Bool) (r : ℕ) → Sound h line → h.lines ≡ 0 → b ≡ eqs (take h.kept line) firstLine →
-    Puts (cond b [] wrongFirst) r d out →
-    Goes (ended (state_of h line)) (endSays (state_of h line)) (record { lines = 1; wrong = not b; counts = h.counts; kept = 0 }) line r d out
-unfolding ended endSays
+pub goes_first : (h : Hub) (line d out : List ℕ) (b : Bool) (r : ℕ) → Sound h line → h.lines ≡ 0 → b ≡ eqs (take h.kept line) first_line →
+    Puts (cond b [] wrong_first) r d out →
+    Goes (ended (state_of h line)) (end_says (state_of h line)) (record { lines = 1; wrong = not b; counts = h.counts; kept = 0 }) line r d out
+unfolding ended end_says
 goes_first h line d out b r s e w p =
     record {
       sound = record { room = s.room; line-most = omega arith; lines-most = omega arith; counts-most = λ i. omega (arith, s.counts-most i, e) };
@@ -67,10 +67,10 @@ goes_first h line d out b r s e w p =
       said = rw (e, ← w) p;
     }
 
-pub goes_later : (h : Hub) (line d out cs : List ℕ) (a r : ℕ) → Sound h line → 0 < h.lines → h.lines ≤ lastLine → a ≡ acceptedSet (parse (take h.kept line)) →
+pub goes_later : (h : Hub) (line d out cs : List ℕ) (a r : ℕ) → Sound h line → 0 < h.lines → h.lines ≤ last_line → a ≡ accepted_set (parse (take h.kept line)) →
     cs ≡ counted 1 a h.counts → Puts (line_for h.lines (take h.kept line)) r d out →
-    Goes (ended (state_of h line)) (endSays (state_of h line)) (record { lines = h.lines + 1; wrong = false; counts = cs; kept = 0 }) line r d out
-unfolding ended endSays
+    Goes (ended (state_of h line)) (end_says (state_of h line)) (record { lines = h.lines + 1; wrong = false; counts = cs; kept = 0 }) line r d out
+unfolding ended end_says
 goes_later h line d out cs a r s p q x y w =
     let n : eqb h.lines 0 ≡ false = ne_eqb h.lines 0 (λ e. absurd (omega (arith, e, p))) in
     record {
@@ -80,18 +80,18 @@ goes_later h line d out cs a r s p q x y w =
     }
 
 -- a count is at most the last line's number
-pub counts-below : (h : Hub) (line : List ℕ) → Sound h line → Below h.counts (lastLine + 1)
+pub counts-below : (h : Hub) (line : List ℕ) → Sound h line → Below h.counts (last_line + 1)
 counts-below h line s i = omega (arith, s.counts-most i, s.lines-most)
 
 -- where more is read, the last line has not ended
-pub still_open : (h : Hub) (line : List ℕ) → Sound h line → isDone (state_of h line) ≡ false → h.lines ≤ lastLine
-unfolding isDone
+pub still_open : (h : Hub) (line : List ℕ) → Sound h line → is_done (state_of h line) ≡ false → h.lines ≤ last_line
+unfolding is_done
 still_open h line s o =
     ⊎_elim
-    (λ (q : h.lines ≤ lastLine). q)
-    (λ (q : lastLine < h.lines). absurd (never h.wrong o (eq-eqb h.lines (lastLine + 1) (omega (arith, q, s.lines-most)))))
-    (le-or-lt h.lines lastLine)
+    (λ (q : h.lines ≤ last_line). q)
+    (λ (q : last_line < h.lines). absurd (never h.wrong o (eq-eqb h.lines (last_line + 1) (omega (arith, q, s.lines-most)))))
+    (le_or_lt h.lines last_line)
   where
-    never : (b : Bool) → (b || eqb h.lines (lastLine + 1)) ≡ false → eqb h.lines (lastLine + 1) ≡ true → ⊥
+    never : (b : Bool) → (b || eqb h.lines (last_line + 1)) ≡ false → eqb h.lines (last_line + 1) ≡ true → ⊥
     never true e t = subst T e tt
     never false e t = subst T (sym t ∙ e) tt

@@ -1,7 +1,7 @@
 // A chunk of the input, of any length.
 ghost use Rattle.std.specs.Prelude.{◌≡◌, ◌≤◌, min, length};
 ghost use Rattle.hub_run.specs.Values.{Sound, KeepsPiece, FeedsLine, FeedsChunk};
-ghost use Rattle.hub_rules.specs.Stream.{lineRoom};
+ghost use Rattle.hub_rules.specs.Stream.{line_room};
 
 use crate::line::end_line;
 use crate::state::{Hub, LINE_KEPT, LINE_ROOM, is_over};
@@ -39,7 +39,7 @@ fn keep(h: Hub, line: &mut [u8], piece: &[u8]) -> Hub
 
 // The chunk up to the end of its first line, or all of it.
 fn feed_line(h: Hub, line: &mut [u8], chunk: &[u8], out: &mut [u8]) -> Fed
-    requires line_room_in_bounds { lineRoom ≤ length out.old }
+    requires line_room_in_bounds { line_room ≤ length out.old }
     requires sound { Sound h line.old }
     ensures { FeedsLine h line.old chunk.now result line.new out.old out.new }
 {
@@ -71,7 +71,7 @@ fn feed_line(h: Hub, line: &mut [u8], chunk: &[u8], out: &mut [u8]) -> Fed
 
 // The chunk as far as there is room in out for a line of output more.
 pub fn feed(h: Hub, line: &mut [u8], chunk: &[u8], out: &mut [u8]) -> Fed
-    requires line_room_in_bounds { lineRoom ≤ length out.old }
+    requires line_room_in_bounds { line_room ≤ length out.old }
     requires sound { Sound h line.old }
     ensures { FeedsChunk h line.old chunk.now result line.new out.old out.new }
 {

@@ -2,8 +2,8 @@
 ghost use Rattle.std.specs.Prelude.{◌≡◌, false, ◌+◌, ◌<◌, ◌≤◌, length};
 ghost use Rattle.octets.specs.Strings.{eqs};
 ghost use Rattle.text.specs.Writing.{Puts};
-ghost use Rattle.hub_rules.specs.Whole.{lastLine, firstLine, wrongFirst};
-ghost use Rattle.hub_rules.specs.Stream.{lineRoom, isDone, counted};
+ghost use Rattle.hub_rules.specs.Whole.{last_line, first_line, wrong_first};
+ghost use Rattle.hub_rules.specs.Stream.{line_room, is_done, counted};
 ghost use Rattle.hub_run.specs.Values.{Below, Sound, Ends, state_of};
 
 use crate::state::Hub;
@@ -17,7 +17,7 @@ pub struct Step {
 }
 
 fn is_first_line(line: &[u8]) -> bool
-    ensures { result ≡ eqs line.now firstLine }
+    ensures { result ≡ eqs line.now first_line }
 {
     hub_text::is_word(line, b"act set key nonce data text")
 }
@@ -25,7 +25,7 @@ fn is_first_line(line: &[u8]) -> bool
 // What is said of a wrong first line.
 fn put_wrong(out: &mut [u8]) -> usize
     requires { 7 ≤ length out.old }
-    ensures { Puts wrongFirst result out.old out.new }
+    ensures { Puts wrong_first result out.old out.new }
 {
     octets::put(out, b"0 11 -\n");
     7
@@ -33,7 +33,7 @@ fn put_wrong(out: &mut [u8]) -> usize
 
 // The counts with one more for a set; 0 is none.
 fn count(counts: [u32; 10], set: u32) -> [u32; 10]
-    requires { Below counts (lastLine + 1) }
+    requires { Below counts (last_line + 1) }
     ensures { result ≡ counted 1 set counts }
 {
     let mut next = counts;
@@ -77,7 +77,7 @@ fn end_first(h: Hub, line: &[u8], out: &mut [u8]) -> Step
 
 // The end of a later line.
 fn end_later(h: Hub, line: &[u8], out: &mut [u8]) -> Step
-    requires lines_nonzero { (0 < h.lines) × (h.lines ≤ lastLine) × (lineRoom ≤ length out.old) }
+    requires lines_nonzero { (0 < h.lines) × (h.lines ≤ last_line) × (line_room ≤ length out.old) }
     requires sound { Sound h line.now }
     ensures { Ends h line.now result out.old out.new }
 {
@@ -97,8 +97,8 @@ fn end_later(h: Hub, line: &[u8], out: &mut [u8]) -> Step
 
 // The end of the line that the buffer holds.
 pub fn end_line(h: Hub, line: &[u8], out: &mut [u8]) -> Step
-    requires line_value { isDone (state_of h line.now) ≡ false }
-    requires line_room_in_bounds { lineRoom ≤ length out.old }
+    requires line_value { is_done (state_of h line.now) ≡ false }
+    requires line_room_in_bounds { line_room ≤ length out.old }
     requires sound { Sound h line.now }
     ensures { Ends h line.now result out.old out.new }
 {

@@ -1,7 +1,7 @@
 // The summary: a row for each set that accepted lines.
 ghost use Rattle.std.specs.Prelude.{◌<◌, ◌≤◌, ◌+◌, length};
 ghost use Rattle.text.specs.Writing.{Puts};
-ghost use Rattle.hub_rules.specs.Whole.{lastLine, rowFor};
+ghost use Rattle.hub_rules.specs.Whole.{last_line, row_for};
 ghost use Rattle.hub_rules.specs.Stream.{rows_of};
 ghost use Rattle.hub_run.specs.Values.{Below};
 
@@ -10,7 +10,7 @@ use text::{put_byte, put_decimal, put_number};
 // A row, or nothing where the count is 0.
 fn put_row(set: u32, count: u32, out: &mut [u8]) -> usize
     requires { (set < 100000) × (count < 100000) × (12 ≤ length out.old) }
-    ensures { (result ≤ 12) × Puts (rowFor set count) result out.old out.new }
+    ensures { (result ≤ 12) × Puts (row_for set count) result out.old out.new }
 {
     if count == 0 {
         return 0;
@@ -22,7 +22,7 @@ fn put_row(set: u32, count: u32, out: &mut [u8]) -> usize
 
 // The rows of sets 1 to 10.
 pub fn put_rows(counts: [u32; 10], out: &mut [u8]) -> usize
-    requires { (120 ≤ length out.old) × Below counts (lastLine + 1) }
+    requires { (120 ≤ length out.old) × Below counts (last_line + 1) }
     ensures { (result ≤ 120) × Puts (rows_of 1 counts) result out.old out.new }
 {
     let mut at = 0;

@@ -11,22 +11,22 @@ use lib.Dec.{T, eqb}
 use lib.ListN.{length, take, drop, get_or, length-append, length-take, length-drop, drop_of_length-le}
 use lib.Seq.{drop-cons, take_at, drop_at, take-nil, take-take}
 use Rattle.octets.specs.Strings.{eqs}
-use Rattle.octets.proofs.Tests.{eqs-other}
-use Rattle.octets.proofs.Parts.{put-at, drop-put}
+use Rattle.octets.proofs.Tests.{eqs_other}
+use Rattle.octets.proofs.Parts.{put_at, drop_put}
 use Rattle.hub_text.specs.declared.cut.Cut.{Cut}
 use Rattle.hub_text.specs.declared.request.Asked.{Asked}
-use Rattle.text.specs.Numerals.{isSetNumber, decimalValue, is_value, value_of}
-use Rattle.hub_grammar.specs.Lines.{lineLimit, sealWord, openWord, fromSix, fromWords, parse}
+use Rattle.text.specs.Numerals.{is_set_number, decimal_value, is_value, value_of}
+use Rattle.hub_grammar.specs.Lines.{line_limit, seal_word, open_word, from_six, from_words, parse}
 use Rattle.hub_grammar.specs.Lines.Parsed.{malformed}
 use Rattle.hub_text.specs.Cuts.{part, Cuts}
-use Rattle.hub_text.specs.Requests.{bytesRoom, wellFormedAt, Asks, Next, noneAsked, Read}
-use Rattle.text.proofs.HexLaws.{of-dash, of-pairs, length-unhex}
+use Rattle.hub_text.specs.Requests.{bytes_room, well_formed_at, Asks, Next, none_asked, Read}
+use Rattle.text.proofs.HexLaws.{of_dash, of_pairs, length-unhex}
 use Rattle.text.proofs.NumeralLaws.{both}
 
 -- ---- a word that is another
 
 pub other_length : (w v : List ℕ) → (length w ≡ length v → ⊥) → false ≡ eqs w v
-other_length w v n = sym (eqs-other w v (λ e. n (ap length e)))
+other_length w v n = sym (eqs_other w v (λ e. n (ap length e)))
 
 -- After i turns: the first i bytes are the same.
 pub record Matched (w v : List ℕ) (i : ℕ) : Type 0 where
@@ -34,30 +34,30 @@ pub record Matched (w v : List ℕ) (i : ℕ) : Type 0 where
   pub long : length w ≡ length v
   pub rest : eqs w v ≡ eqs (drop i w) (drop i v)
 
-pub matched-none : (w v : List ℕ) → length w ≡ length v → Matched w v 0
-matched-none w v e = record { within = omega arith; long = e; rest = refl }
+pub matched_none : (w v : List ℕ) → length w ≡ length v → Matched w v 0
+matched_none w v e = record { within = omega arith; long = e; rest = refl }
 
 one_more : (w v : List ℕ) (i : ℕ) → i < length w → i < length v →
     eqs (drop i w) (drop i v) ≡ eqb (get_or w i 0) (get_or v i 0) && eqs (drop (i + 1) w) (drop (i + 1) v)
 one_more w v i h k = rw (drop-cons w i 0 h, drop-cons v i 0 k, add-one i)
 
-pub matched-turn : {w v : List ℕ} {i : ℕ} → Matched w v i → i < length w → get_or w i 0 ≡ get_or v i 0 → Matched w v (i + 1)
-matched-turn {w} {v} {i} m h e =
+pub matched_turn : {w v : List ℕ} {i : ℕ} → Matched w v i → i < length w → get_or w i 0 ≡ get_or v i 0 → Matched w v (i + 1)
+matched_turn {w} {v} {i} m h e =
     record {
       within = omega arith;
       long = m.long;
       rest = m.rest ∙ one_more w v i h (omega (arith, m.long)) ∙ ap (λ (p : Bool). p && eqs (drop (i + 1) w) (drop (i + 1) v)) (eq-eqb (get_or w i 0) (get_or v i 0) e);
     }
 
-pub matched-not : {w v : List ℕ} {i : ℕ} → Matched w v i → i < length w → (get_or w i 0 ≡ get_or v i 0 → ⊥) → false ≡ eqs w v
-matched-not {w} {v} {i} m h n =
+pub matched_not : {w v : List ℕ} {i : ℕ} → Matched w v i → i < length w → (get_or w i 0 ≡ get_or v i 0 → ⊥) → false ≡ eqs w v
+matched_not {w} {v} {i} m h n =
     sym
     (m.rest
     ∙ one_more w v i h (omega (arith, m.long))
     ∙ ap (λ (p : Bool). p && eqs (drop (i + 1) w) (drop (i + 1) v)) (ne_eqb (get_or w i 0) (get_or v i 0) n))
 
-pub matched-all : {w v : List ℕ} {i : ℕ} → Matched w v i → length w ≤ i → true ≡ eqs w v
-matched-all {w} {v} {i} m h = sym (m.rest ∙ rw (drop_of_length-le w {i = i} h, drop_of_length-le v {i = i} (omega (arith, m.long))))
+pub matched_all : {w v : List ℕ} {i : ℕ} → Matched w v i → length w ≤ i → true ≡ eqs w v
+matched_all {w} {v} {i} m h = sym (m.rest ∙ rw (drop_of_length-le w {i = i} h, drop_of_length-le v {i = i} (omega (arith, m.long))))
 
 -- ---- a value read over the bytes from a place on
 
@@ -66,8 +66,8 @@ pub value-size : (w : List ℕ) → length (value_of w) ≤ length w / 2
 value-size w = go (eqb (length w) 1) refl
   where
     go : (b : Bool) → eqb (length w) 1 ≡ b → length (value_of w) ≤ length w / 2
-    go true e = rw (of-dash w (eqb-true (length w) 1 e)) (omega arith)
-    go false e = rw (of-pairs w (eqb-false (length w) 1 e)) (omega (arith, length-unhex w))
+    go true e = rw (of_dash w (eqb-true (length w) 1 e)) (omega arith)
+    go false e = rw (of_pairs w (eqb-false (length w) 1 e)) (omega (arith, length-unhex w))
 
 -- last is what read_value says of the part that it was lent
 pub next-read : (w a last : List ℕ) (i k : ℕ) → i + length w / 2 ≤ length a → k ≡ length (value_of w) →
@@ -77,7 +77,7 @@ next-read w a last i k h e p =
     record {
       ends = ap (λ (n : ℕ). i + n) e;
       over =
-          put-at a i (value_of w) last (omega (arith, value-size w)) (p ∙ ap (λ (n : ℕ). value_of w ++ drop n (take (length a - i) (drop i a))) e)
+          put_at a i (value_of w) last (omega (arith, value-size w)) (p ∙ ap (λ (n : ℕ). value_of w ++ drop n (take (length a - i) (drop i a))) e)
           ∙ ap (λ (n : ℕ). take i a ++ (value_of w ++ drop (i + n) a)) (sym e);
     }
 
@@ -111,7 +111,7 @@ module _ {v : List ℕ} {i j : ℕ} {a b : List ℕ} (x : Next v i j a b) (h : j
   next-after n l =
       let e : length (take i a ++ v) ≡ j = length-append (take i a) v ∙ omega (arith, next-first, x.ends) in
       ap (drop n) (x.over ∙ sym (append_assoc (take i a) v (drop j a)) ∙ ap (λ (k : ℕ). (take i a ++ v) ++ drop k a) (sym e))
-      ∙ drop-put (take i a ++ v) a n (omega (arith, e, l))
+      ∙ drop_put (take i a ++ v) a n (omega (arith, e, l))
 
   next-before : (m n : ℕ) → n ≤ i → part b m n ≡ part a m n
   next-before m n l =
@@ -123,16 +123,16 @@ module _ {v : List ℕ} {i j : ℕ} {a b : List ℕ} (x : Next v i j a b) (h : j
 -- the characters between place p and place q are a value
 pub record Word (s : List ℕ) (p q : ℕ) : Type 0 where
   pub before : p < q
-  pub most : q ≤ lineLimit
+  pub most : q ≤ line_limit
   pub value : is_value (part s (p + 1) q) ≡ true
 
 -- i bytes are read off the first p characters
 pub record Stage (p i : ℕ) (b : List ℕ) : Type 0 where
   pub half : 2 * i ≤ p
-  pub room : bytesRoom ≤ length b
+  pub room : bytes_room ≤ length b
 
-pub stage-none : (p : ℕ) (b : List ℕ) → bytesRoom ≤ length b → Stage p 0 b
-stage-none p b h = record { half = omega arith; room = h }
+pub stage_none : (p : ℕ) (b : List ℕ) → bytes_room ≤ length b → Stage p 0 b
+stage_none p b h = record { half = omega arith; room = h }
 
 -- the next value: it may be read, and what is then known
 module _ {s v a : List ℕ} {p q i : ℕ} (o : Word s p q) (g : Stage p i a) (e : v ≡ part s (p + 1) q) where
@@ -146,16 +146,16 @@ module _ {s v a : List ℕ} {p q i : ℕ} (o : Word s p q) (g : Stage p i a) (e 
     ends-half : 2 * j ≤ q
     ends-half = omega (arith, size, value-size v, o.before, g.half, x.ends)
 
-    ends-in : j ≤ length a
-    ends-in = omega (arith, ends-half, o.most, g.room)
+    ends_in : j ≤ length a
+    ends_in = omega (arith, ends-half, o.most, g.room)
 
-    pub stage-next : Stage q j b
-    stage-next = record { half = ends-half; room = omega (arith, next-long x ends-in, g.room) }
+    pub stage_next : Stage q j b
+    stage_next = record { half = ends-half; room = omega (arith, next-long x ends_in, g.room) }
 
 -- ---- what a line says
 
-abbrev pub isAct : List ℕ → Bool
-isAct w = eqs w sealWord || eqs w openWord
+abbrev pub is_act : List ℕ → Bool
+is_act w = eqs w seal_word || eqs w open_word
 
 -- a test's answer about what was lent
 pub says : (f : List ℕ → Bool) {w v : List ℕ} {r x : Bool} → w ≡ v → r ≡ f w → r ≡ x → f v ≡ x
@@ -163,43 +163,43 @@ says f e p q = ap f (sym e) ∙ sym p ∙ q
 
 module _ (s : List ℕ) (w : Cut) where
   -- one word after the other is what it is to be
-  pub not-act : isAct (part s 0 w.a) ≡ false → false ≡ wellFormedAt s w
+  pub not-act : is_act (part s 0 w.a) ≡ false → false ≡ well_formed_at s w
   not-act a = rw a
 
-  module _ (a : isAct (part s 0 w.a) ≡ true) where
-    pub not_set : isSetNumber (part s (w.a + 1) w.b) ≡ false → false ≡ wellFormedAt s w
+  module _ (a : is_act (part s 0 w.a) ≡ true) where
+    pub not_set : is_set_number (part s (w.a + 1) w.b) ≡ false → false ≡ well_formed_at s w
     not_set b = rw (a, b)
 
-    module _ (b : isSetNumber (part s (w.a + 1) w.b) ≡ true) where
-      pub not_key : is_value (part s (w.b + 1) w.c) ≡ false → false ≡ wellFormedAt s w
+    module _ (b : is_set_number (part s (w.a + 1) w.b) ≡ true) where
+      pub not_key : is_value (part s (w.b + 1) w.c) ≡ false → false ≡ well_formed_at s w
       not_key c = rw (a, b, c)
 
       module _ (c : is_value (part s (w.b + 1) w.c) ≡ true) where
-        pub not-nonce : is_value (part s (w.c + 1) w.d) ≡ false → false ≡ wellFormedAt s w
+        pub not-nonce : is_value (part s (w.c + 1) w.d) ≡ false → false ≡ well_formed_at s w
         not-nonce d = rw (a, b, c, d)
 
         module _ (d : is_value (part s (w.c + 1) w.d) ≡ true) where
-          pub not-ad : is_value (part s (w.d + 1) w.e) ≡ false → false ≡ wellFormedAt s w
+          pub not-ad : is_value (part s (w.d + 1) w.e) ≡ false → false ≡ well_formed_at s w
           not-ad e = rw (a, b, c, d, e)
 
-          pub if-text : is_value (part s (w.d + 1) w.e) ≡ true → {x : Bool} → is_value (part s (w.e + 1) (length s)) ≡ x → x ≡ wellFormedAt s w
-          if-text e f = rw (a, b, c, d, e) (sym f)
+          pub if_text : is_value (part s (w.d + 1) w.e) ≡ true → {x : Bool} → is_value (part s (w.e + 1) (length s)) ≡ x → x ≡ well_formed_at s w
+          if_text e f = rw (a, b, c, d, e) (sym f)
 
-module _ {s : List ℕ} {w : Cut} (cuts : Cuts s w) (most : length s ≤ lineLimit) where
-  pub parse-other : w.good ≡ false → parse s ≡ malformed
-  unfolding parse fromWords
-  parse-other g = rw (le-leb (length s) lineLimit most, sym cuts.good-is ∙ g)
+module _ {s : List ℕ} {w : Cut} (cuts : Cuts s w) (most : length s ≤ line_limit) where
+  pub parse_other : w.good ≡ false → parse s ≡ malformed
+  unfolding parse from_words
+  parse_other g = rw (le-leb (length s) line_limit most, sym cuts.good-is ∙ g)
 
   parse-six : w.good ≡ true → parse s
-      ≡ fromSix (part s 0 w.a) (part s (w.a + 1) w.b) (part s (w.b + 1) w.c) (part s (w.c + 1) w.d) (part s (w.d + 1) w.e) (part s (w.e + 1) (length s))
-  unfolding parse fromWords
-  parse-six g = rw (le-leb (length s) lineLimit most, cuts.words_are g)
+      ≡ from_six (part s 0 w.a) (part s (w.a + 1) w.b) (part s (w.b + 1) w.c) (part s (w.c + 1) w.d) (part s (w.d + 1) w.e) (part s (w.e + 1) (length s))
+  unfolding parse from_words
+  parse-six g = rw (le-leb (length s) line_limit most, cuts.words_are g)
 
-  pub parse-not : w.good ≡ true → wellFormedAt s w ≡ false → parse s ≡ malformed
-  unfolding fromSix
+  pub parse-not : w.good ≡ true → well_formed_at s w ≡ false → parse s ≡ malformed
+  unfolding from_six
   parse-not g e = parse-six g ∙ rw e
 
-pub read-malformed : (s b : List ℕ) (r : Asked) → r ≡ noneAsked → parse s ≡ malformed → Read s r b b
+pub read-malformed : (s b : List ℕ) (r : Asked) → r ≡ none_asked → parse s ≡ malformed → Read s r b b
 read-malformed s b r n e =
     let never : r.good ≡ true → ⊥ = λ t. subst T (sym t ∙ ap (λ (x : Asked). x.good) n) tt in
     record {
@@ -213,7 +213,7 @@ read-malformed s b r n e =
 -- ---- a request read
 
 pub record Words (s : List ℕ) (w : Cut) : Type 0 where
-  pub set : isSetNumber (part s (w.a + 1) w.b) ≡ true
+  pub set : is_set_number (part s (w.a + 1) w.b) ≡ true
   pub key : Word s w.b w.c
   pub nonce : Word s w.c w.d
   pub ad : Word s w.d w.e
@@ -228,7 +228,7 @@ words {s} {w} h =
     let d = both _ (is_value (part s (w.c + 1) w.d)) e.0 in
     let c = both _ (is_value (part s (w.b + 1) w.c)) d.0 in
     record {
-      set = (both (isAct (part s 0 w.a)) _ c.0).1;
+      set = (both (is_act (part s 0 w.a)) _ c.0).1;
       key = record { before = o.1; most = omega (arith, o, m); value = c.1 };
       nonce = record { before = o.2; most = omega (arith, o, m); value = d.1 };
       ad = record { before = o.3; most = omega (arith, o, m); value = e.1 };
@@ -236,25 +236,25 @@ words {s} {w} h =
     }
 
 -- v₁ to v₆ are the words
-pub read_asked : {s : List ℕ} {w : Cut} → Asks s w → {v₁ v₂ v₃ v₄ v₅ v₆ b₀ b₁ b₂ b₃ b₄ : List ℕ} {seals : Bool} {set k n m t : ℕ} → bytesRoom ≤ length b₀ →
-    v₁ ≡ part s 0 w.a → seals ≡ eqs v₁ sealWord →
-    v₂ ≡ part s (w.a + 1) w.b → set ≡ decimalValue 0 v₂ →
+pub read_asked : {s : List ℕ} {w : Cut} → Asks s w → {v₁ v₂ v₃ v₄ v₅ v₆ b₀ b₁ b₂ b₃ b₄ : List ℕ} {seals : Bool} {set k n m t : ℕ} → bytes_room ≤ length b₀ →
+    v₁ ≡ part s 0 w.a → seals ≡ eqs v₁ seal_word →
+    v₂ ≡ part s (w.a + 1) w.b → set ≡ decimal_value 0 v₂ →
     v₃ ≡ part s (w.b + 1) w.c → Next (value_of v₃) 0 k b₀ b₁ →
     v₄ ≡ part s (w.c + 1) w.d → Next (value_of v₄) k n b₁ b₂ →
     v₅ ≡ part s (w.d + 1) w.e → Next (value_of v₅) n m b₂ b₃ →
     v₆ ≡ part s (w.e + 1) (length s) → Next (value_of v₆) m t b₃ b₄ →
     Read s (record { good = true; seals = seals; set = set; key = k; nonce = n; ad = m; text = t }) b₀ b₄
-unfolding fromSix
+unfolding from_six
 read_asked {s} {w} h {v₁} {v₂} {v₃} {v₄} {v₅} {v₆} {b₀} {b₁} {b₂} {b₃} {b₄} {seals} {set} {k} {n} {m} {t} room e₁ x₁ e₂ x₂ e₃ x₃ e₄ x₄ e₅ x₅ e₆ x₆ =
     let o = words h in
-    let g₃ = stage-none w.b b₀ room in
-    let g₄ = stage-next o.key g₃ e₃ x₃ in
-    let g₅ = stage-next o.nonce g₄ e₄ x₄ in
-    let g₆ = stage-next o.ad g₅ e₅ x₅ in
-    let i₃ = ends-in o.key g₃ e₃ x₃ in
-    let i₄ = ends-in o.nonce g₄ e₄ x₄ in
-    let i₅ = ends-in o.ad g₅ e₅ x₅ in
-    let i₆ = ends-in o.text g₆ e₆ x₆ in
+    let g₃ = stage_none w.b b₀ room in
+    let g₄ = stage_next o.key g₃ e₃ x₃ in
+    let g₅ = stage_next o.nonce g₄ e₄ x₄ in
+    let g₆ = stage_next o.ad g₅ e₅ x₅ in
+    let i₃ = ends_in o.key g₃ e₃ x₃ in
+    let i₄ = ends_in o.nonce g₄ e₄ x₄ in
+    let i₅ = ends_in o.ad g₅ e₅ x₅ in
+    let i₆ = ends_in o.text g₆ e₆ x₆ in
     let l₁ : k ≤ n = omega (arith, x₄.ends) in
     let l₂ : n ≤ m = omega (arith, x₅.ends) in
     let l₃ : m ≤ t = omega (arith, x₆.ends) in

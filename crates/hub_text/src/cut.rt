@@ -1,7 +1,7 @@
 // A line cut at its spaces.
 ghost use Rattle.std.specs.Prelude.{◌≡◌, ◌+◌, ◌≤◌, length};
-ghost use Rattle.hub_grammar.specs.Lines.{lengthBefore};
-ghost use Rattle.hub_text.specs.Cuts.{wordEnd, noCut, Cuts};
+ghost use Rattle.hub_grammar.specs.Lines.{length_before};
+ghost use Rattle.hub_text.specs.Cuts.{end_of_word, no_cut, Cuts};
 
 // The places of the five spaces, where there are six words.
 #[derive(Drop)]
@@ -16,7 +16,7 @@ pub struct Cut {
 
 // How many bytes stand before the first x, or in all.
 pub fn length_before(s: &[u8], x: u8) -> usize
-    ensures { (result ≡ lengthBefore x s.now) × (result ≤ length s.now) }
+    ensures { (result ≡ length_before x s.now) × (result ≤ length s.now) }
 {
     let mut i = 0;
     while i < s.len() {
@@ -31,14 +31,14 @@ pub fn length_before(s: &[u8], x: u8) -> usize
 // Where the word ends that begins at a place.
 fn word_end(line: &[u8], from: usize) -> usize
     requires { from ≤ length line.now }
-    ensures { (result ≡ wordEnd line.now from) × (result ≤ length line.now) }
+    ensures { (result ≡ end_of_word line.now from) × (result ≤ length line.now) }
 {
     from + length_before(&line[from..], 32)
 }
 
 // A line of another number of words.
 fn other() -> Cut
-    ensures { result ≡ noCut }
+    ensures { result ≡ no_cut }
 {
     Cut {
         good: false,

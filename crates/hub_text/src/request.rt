@@ -2,9 +2,9 @@
 ghost use Rattle.std.specs.Prelude.{◌≡◌, true, ◌||◌, ◌+◌, ◌/◌, ◌≤◌, length};
 ghost use Rattle.octets.specs.Strings.{eqs};
 ghost use Rattle.text.specs.Numerals.{is_value, value_of};
-ghost use Rattle.hub_grammar.specs.Lines.{lineLimit, sealWord, openWord};
+ghost use Rattle.hub_grammar.specs.Lines.{line_limit, seal_word, open_word};
 ghost use Rattle.hub_text.specs.Cuts.{part, Cuts};
-ghost use Rattle.hub_text.specs.Requests.{bytesRoom, wellFormedAt, Asks, Next, noneAsked, Read};
+ghost use Rattle.hub_text.specs.Requests.{bytes_room, well_formed_at, Asks, Next, none_asked, Read};
 
 use crate::cut::{Cut, spaces};
 use text::{is_set_number, is_value, read_value, set_number};
@@ -46,21 +46,21 @@ pub fn is_word(w: &[u8], word: &[u8]) -> bool
 }
 
 fn is_seal(w: &[u8]) -> bool
-    ensures { result ≡ eqs w.now sealWord }
+    ensures { result ≡ eqs w.now seal_word }
 {
     let word = [115, 101, 97, 108];
     is_word(w, &word)
 }
 
 fn is_open(w: &[u8]) -> bool
-    ensures { result ≡ eqs w.now openWord }
+    ensures { result ≡ eqs w.now open_word }
 {
     let word = [111, 112, 101, 110];
     is_word(w, &word)
 }
 
 fn is_act(w: &[u8]) -> bool
-    ensures { result ≡ (eqs w.now sealWord || eqs w.now openWord) }
+    ensures { result ≡ (eqs w.now seal_word || eqs w.now open_word) }
 {
     if is_seal(w) {
         return true;
@@ -80,7 +80,7 @@ pub fn word<'a>(line: &'a [u8], from: usize, to: usize) -> &'a [u8]
 fn is_request(line: &[u8], w: Cut) -> bool
     requires good_value { w.good ≡ true }
     requires cuts { Cuts line.now w }
-    ensures { result ≡ wellFormedAt line.now w }
+    ensures { result ≡ well_formed_at line.now w }
 {
     if !is_act(word(line, 0, w.a)) {
         return false;
@@ -112,7 +112,7 @@ fn read_next(w: &[u8], bytes: &mut [u8], at: usize) -> usize
 // The request of six words that are one: its strings over the first bytes of bytes.
 fn read_request(line: &[u8], w: Cut, bytes: &mut [u8]) -> Asked
     requires asks { Asks line.now w }
-    requires bytes_room_in_bounds { bytesRoom ≤ length bytes.old }
+    requires bytes_room_in_bounds { bytes_room ≤ length bytes.old }
     ensures { Read line.now result bytes.old bytes.new }
 {
     let seals = is_seal(word(line, 0, w.a));
@@ -133,7 +133,7 @@ fn read_request(line: &[u8], w: Cut, bytes: &mut [u8]) -> Asked
 }
 
 fn malformed() -> Asked
-    ensures { result ≡ noneAsked }
+    ensures { result ≡ none_asked }
 {
     Asked {
         good: false,
@@ -148,7 +148,7 @@ fn malformed() -> Asked
 
 // What a line within the limit says.
 pub fn read_line(line: &[u8], bytes: &mut [u8]) -> Asked
-    requires { (length line.now ≤ lineLimit) × (bytesRoom ≤ length bytes.old) }
+    requires { (length line.now ≤ line_limit) × (bytes_room ≤ length bytes.old) }
     ensures { Read line.now result bytes.old bytes.new }
 {
     let w = spaces(line);

@@ -2,17 +2,17 @@
 -- Assumes nothing.
 use Rattle.std.specs.Prelude.{List, map, ℕ}
 use Rattle.answers.specs.Rows.{answer, first_of}
-use Rattle.cba_mode.specs.Sets.{tagBytes}
-use Rattle.cba_rules.specs.Checks.{messageRows}
+use Rattle.cba_mode.specs.Sets.{tag_bytes}
+use Rattle.cba_rules.specs.Checks.{message_rows}
 use Rattle.cba_steps.specs.declared.parameters.Parameters.{Parameters}
 use Rattle.ledger.specs.declared.ledger.Heading.{Heading}
 use Rattle.ledger.specs.declared.ledger.Ledger.{Ledger}
-use Rattle.ledger_rules.specs.Ledger.{nonceRows, stale, chargeBy, spent, ownRows, LedgerCall, KeepCall, CarryCall}
+use Rattle.ledger_rules.specs.Ledger.{nonce_rows, stale, charge_by, spent, own_rows, LedgerCall, KeepCall, CarryCall}
 use Rattle.ledger_rules.specs.Ledger.Source.{given, named}
 use Rattle.ledger_rules.specs.Ledger as rules
 
-abbrev pub headingOf : Heading → rules.Heading
-headingOf h = record { kept = h.kept; sum = h.sum }
+abbrev pub heading_of : Heading → rules.Heading
+heading_of h = record { kept = h.kept; sum = h.sum }
 
 abbrev pub value_of : Ledger → rules.Ledger
 value_of l =
@@ -24,19 +24,19 @@ value_of l =
       heartbeats = l.heartbeats;
       begun = l.begun;
       last = l.last;
-      headings = map headingOf l.headings;
+      headings = map heading_of l.headings;
     }
 
 -- the checks of a sealing after the set's and before the ledger's own, where its data are answered source
-abbrev pub firstChecks : ℕ → Parameters → List ℕ → ℕ → ℕ → ℕ → ℕ
-firstChecks console p N source message room =
-    first_of (first_of (answer (nonceRows console N)) source) (answer (messageRows (tagBytes p.tau) message room))
+abbrev pub first_checks : ℕ → Parameters → List ℕ → ℕ → ℕ → ℕ → ℕ
+first_checks console p N source message room =
+    first_of (first_of (answer (nonce_rows console N)) source) (answer (message_rows (tag_bytes p.tau) message room))
 
 -- and the ledger's own after them, where ad is the length that its data are charged for
-abbrev pub allChecks : Ledger → Parameters → List ℕ → ℕ → ℕ → ℕ → ℕ → ℕ
-allChecks l p N source ad message room =
-    let own = ownRows (stale (value_of l) N) (spent (value_of l) (chargeBy l.heartbeats ad message)) in
-    first_of (firstChecks l.console p N source message room) (answer own)
+abbrev pub all_checks : Ledger → Parameters → List ℕ → ℕ → ℕ → ℕ → ℕ → ℕ
+all_checks l p N source ad message room =
+    let own = own_rows (stale (value_of l) N) (spent (value_of l) (charge_by l.heartbeats ad message)) in
+    first_of (first_checks l.console p N source message room) (answer own)
 
 -- a sealing: its answer r, the next ledger l', and out', the output at exit
 abbrev pub Ran : Ledger → List ℕ → List ℕ → List ℕ → List ℕ → ℕ → Ledger → List ℕ → Type 0

@@ -1,12 +1,12 @@
 // What a ledger checks: the nonce's start, nonces as numbers, and the charge against the capacity.
 ghost use Rattle.std.specs.Prelude.{◌≡◌, not, ◌+◌, ◌/◌, ◌^◌, ◌≤◌, ltb, length};
 ghost use Rattle.octets.specs.Numbers.{number};
-ghost use Rattle.ledger_rules.specs.Ledger.{consoleOf, chargeBy};
+ghost use Rattle.ledger_rules.specs.Ledger.{console_of, charge_by};
 
 // The console number that a nonce begins with.
 pub fn console_of(nonce: &[u8]) -> u16
     requires { length nonce.now ≡ 12 }
-    ensures { result ≡ consoleOf nonce.now }
+    ensures { result ≡ console_of nonce.now }
 {
     (nonce[0] as u16) * 256 + nonce[1] as u16
 }
@@ -40,7 +40,7 @@ fn blocks(n: usize) -> u64
 
 // The blocks of data and message; where heartbeats are charged, at least one.
 pub fn charge(heartbeats: bool, ad: usize, message: usize) -> u64
-    ensures { result ≡ chargeBy heartbeats ad message }
+    ensures { result ≡ charge_by heartbeats ad message }
 {
     let n = blocks(ad) + blocks(message);
     if n != 0 {

@@ -4,13 +4,13 @@ ghost use Rattle.std.specs.Prelude.{◌≡◌, true, [], ◌∷◌, ◌+◌, ◌
 ghost use Rattle.answers.specs.Rows.{answer};
 ghost use Rattle.fips197.specs.Schedule.{is_key};
 ghost use Rattle.fips197.specs.Cipher.{cipher};
-ghost use Rattle.cba_mode.specs.Data.{dataHash};
+ghost use Rattle.cba_mode.specs.Data.{data_hash};
 ghost use Rattle.cba_sealing.specs.Calls.{Seals, Enc};
 ghost use Rattle.plain.specs.declared.sets.Set.TheVariants.{Known};
-ghost use Rattle.plain.specs.Lookup.{lookupOf};
-ghost use Rattle.ledger_rules.specs.Ledger.{headingAt, isKept, badName, ledgerAnswer, keepAnswer, keeping, keptLedger};
+ghost use Rattle.plain.specs.Lookup.{lookup_of};
+ghost use Rattle.ledger_rules.specs.Ledger.{heading_at, is_kept, bad_name, ledger_answer, keep_answer, keeping, kept_ledger};
 ghost use Rattle.ledger_rules.specs.Ledger.Source.{named};
-ghost use Rattle.ledger.specs.Values.{headingOf, value_of, RanByName, RanKeeping};
+ghost use Rattle.ledger.specs.Values.{heading_of, value_of, RanByName, RanKeeping};
 
 use crate::checks::charge;
 use crate::ledger::{Heading, Ledger, Outcome, capacity_check, checked, next};
@@ -22,7 +22,7 @@ const NAMES: u32 = 8;
 
 // 13, where a name is not as the call asks.
 fn name_check(good: bool) -> u32
-    ensures { result ≡ answer (badName good ∷ []) }
+    ensures { result ≡ answer (bad_name good ∷ []) }
 {
     if !good {
         return 13;
@@ -33,7 +33,7 @@ fn name_check(good: bool) -> u32
 // What there is under a name.
 fn heading(l: Ledger, name: u32) -> Heading
     requires { name < 8 }
-    ensures { headingOf result ≡ headingAt (value_of l) name }
+    ensures { heading_of result ≡ heading_at (value_of l) name }
 {
     let i = name as usize;
     l.headings[i]
@@ -41,7 +41,7 @@ fn heading(l: Ledger, name: u32) -> Heading
 
 // Whether a name has something kept.
 fn is_kept(l: Ledger, name: u32) -> bool
-    ensures { result ≡ isKept (value_of l) name }
+    ensures { result ≡ is_kept (value_of l) name }
 {
     if name >= NAMES {
         return false;
@@ -54,7 +54,7 @@ fn is_kept(l: Ledger, name: u32) -> bool
 fn sum_of(p: Parameters, key: &[u8], ad: &[u8]) -> [u8; 16]
     requires key_value { is_key key.now ≡ true }
     requires ad_len_bound { length ad.now ≤ 4096 }
-    ensures { result ≡ dataHash (cipher key.now) p.tau p.capacity ad.now }
+    ensures { result ≡ data_hash (cipher key.now) p.tau p.capacity ad.now }
 {
     let mut ctx = aes::blank();
     aes::fill(key, &mut ctx);
@@ -74,8 +74,8 @@ fn seal_with(p: Parameters, key: &[u8], nonce: &[u8], sum: [u8; 16], message: &[
 
 // The checks of a keeping after the set's, in their order.
 fn keep_checks(l: Ledger, p: Parameters, name: u32, ad: usize) -> u32
-    requires { lookupOf l.set ≡ Known p }
-    ensures { result ≡ keepAnswer (value_of l) name ad }
+    requires { lookup_of l.set ≡ Known p }
+    ensures { result ≡ keep_answer (value_of l) name ad }
 {
     let a = first_of(name_check(name < NAMES), ad_check(ad));
     first_of(a, capacity_check(l, p, charge(l.heartbeats, ad, 0)))
@@ -98,9 +98,9 @@ fn with_sum(l: Ledger, name: u32, sum: [u8; 16], charge: u64) -> Ledger
 
 // The keeping of data that no check refuses.
 fn kept(l: Ledger, p: Parameters, name: u32, ad: &[u8]) -> Ledger
-    requires set_value { lookupOf l.set ≡ Known p }
-    requires ad_value { keepAnswer (value_of l) name (length ad.now) ≡ 0 }
-    ensures { value_of result ≡ keptLedger (value_of l) name ad.now }
+    requires set_value { lookup_of l.set ≡ Known p }
+    requires ad_value { keep_answer (value_of l) name (length ad.now) ≡ 0 }
+    ensures { value_of result ≡ kept_ledger (value_of l) name ad.now }
 {
     let key = l.key;
     let n = p.key_bytes();
@@ -117,8 +117,8 @@ fn seal_named(
     message: &[u8],
     out: &mut [u8],
 ) -> Ledger
-    requires set_value { lookupOf l.set ≡ Known p }
-    requires out_value { ledgerAnswer (value_of l) nonce.now (named name) (length message.now) (length out.old) ≡ 0 }
+    requires set_value { lookup_of l.set ≡ Known p }
+    requires out_value { ledger_answer (value_of l) nonce.now (named name) (length message.now) (length out.old) ≡ 0 }
     ensures { RanByName l nonce.now name message.now out.old 0 result out.new }
 {
     let key = l.key;

@@ -2,10 +2,10 @@
 ghost use Rattle.std.specs.Prelude.{◌≡◌, true, [], ◌∷◌, ◌+◌, ◌^◌, ◌≤◌, ◌<◌, length};
 ghost use Rattle.answers.specs.Rows.{answer};
 ghost use Rattle.plain.specs.declared.sets.Set.TheVariants.{Known};
-ghost use Rattle.plain.specs.Lookup.{lookupOf};
-ghost use Rattle.ledger_rules.specs.Ledger.{noLedger, fresh, makeAnswer, madeLedger, nonceRows, stale, spent, noBlocks, ownRows, charged, ledgerAnswer};
+ghost use Rattle.plain.specs.Lookup.{lookup_of};
+ghost use Rattle.ledger_rules.specs.Ledger.{no_ledger, fresh, make_answer, made_ledger, nonce_rows, stale, spent, has_no_blocks, own_rows, charged, ledger_answer};
 ghost use Rattle.ledger_rules.specs.Ledger.Source.{given};
-ghost use Rattle.ledger.specs.Values.{value_of, firstChecks, allChecks, Ran};
+ghost use Rattle.ledger.specs.Values.{value_of, first_checks, all_checks, Ran};
 
 use crate::checks::{above, charge, console_of, fits};
 use cba_steps::Parameters;
@@ -51,7 +51,7 @@ pub const NOTHING: Heading = Heading {
 
 // The ledger of a refused making.
 fn none() -> Ledger
-    ensures { value_of result ≡ noLedger }
+    ensures { value_of result ≡ no_ledger }
 {
     Ledger {
         set: 0,
@@ -86,8 +86,8 @@ fn begin(set: u32, key: &[u8], console: u16) -> Ledger
 
 // Makes the ledger of a key and a console, and answers 0, or answers 1 or 2.
 pub fn make(set: u32, key: &[u8], console: u16) -> Outcome
-    ensures answer_value { result.answer ≡ makeAnswer set key.now }
-    ensures ledger_value { value_of result.ledger ≡ madeLedger set key.now console }
+    ensures answer_value { result.answer ≡ make_answer set key.now }
+    ensures ledger_value { value_of result.ledger ≡ made_ledger set key.now console }
 {
     let Set::Known(p) = lookup(set) else {
         return Outcome {
@@ -122,8 +122,8 @@ fn is_stale(l: Ledger, nonce: &[u8]) -> bool
 
 // 10, for a set that is known.
 pub fn capacity_check(l: Ledger, p: Parameters, charge: u64) -> u32
-    requires { lookupOf l.set ≡ Known p }
-    ensures { result ≡ answer (noBlocks (spent (value_of l) charge) ∷ []) }
+    requires { lookup_of l.set ≡ Known p }
+    ensures { result ≡ answer (has_no_blocks (spent (value_of l) charge) ∷ []) }
 {
     if !fits(l.total, charge, p.capacity) {
         return 10;
@@ -133,9 +133,9 @@ pub fn capacity_check(l: Ledger, p: Parameters, charge: u64) -> u32
 
 // The ledger's own checks, for a set that is known.
 fn own_check(l: Ledger, p: Parameters, nonce: &[u8], charge: u64) -> u32
-    requires set_value { lookupOf l.set ≡ Known p }
+    requires set_value { lookup_of l.set ≡ Known p }
     requires nonce_len { length nonce.now ≡ 12 }
-    ensures { result ≡ answer (ownRows (stale (value_of l) nonce.now) (spent (value_of l) charge)) }
+    ensures { result ≡ answer (own_rows (stale (value_of l) nonce.now) (spent (value_of l) charge)) }
 {
     if is_stale(l, nonce) {
         return 9;
@@ -145,7 +145,7 @@ fn own_check(l: Ledger, p: Parameters, nonce: &[u8], charge: u64) -> u32
 
 // 3 and 12.
 fn nonce_checks(console: u16, nonce: &[u8]) -> u32
-    ensures { result ≡ answer (nonceRows console nonce.now) }
+    ensures { result ≡ answer (nonce_rows console nonce.now) }
 {
     let refusal = nonce_check(nonce.len());
     if refusal != 0 {
@@ -164,7 +164,7 @@ fn first_checks(
     message: usize,
     room: usize,
 ) -> u32
-    ensures { result ≡ firstChecks console p nonce.now source message room }
+    ensures { result ≡ first_checks console p nonce.now source message room }
 {
     let a = first_of(nonce_checks(console, nonce), source);
     first_of(a, message_check(p, message, room))
@@ -181,8 +181,8 @@ pub fn checked(
     message: usize,
     room: usize,
 ) -> u32
-    requires { lookupOf l.set ≡ Known p }
-    ensures { result ≡ allChecks l p nonce.now source ad message room }
+    requires { lookup_of l.set ≡ Known p }
+    ensures { result ≡ all_checks l p nonce.now source ad message room }
 {
     let refusal = first_checks(l.console, p, nonce, source, message, room);
     if refusal != 0 {
@@ -214,8 +214,8 @@ fn accepted(
     message: &[u8],
     out: &mut [u8],
 ) -> Outcome
-    requires set_value { lookupOf l.set ≡ Known p }
-    requires out_value { ledgerAnswer (value_of l) nonce.now (given ad.now) (length message.now) (length out.old) ≡ 0 }
+    requires set_value { lookup_of l.set ≡ Known p }
+    requires out_value { ledger_answer (value_of l) nonce.now (given ad.now) (length message.now) (length out.old) ≡ 0 }
     ensures { Ran l nonce.now ad.now message.now out.old result.answer result.ledger out.new }
 {
     let key = l.key;

@@ -4,13 +4,13 @@
 use Rattle.std.specs.Prelude.{◌≡◌, Bool, true, false, ◌&&◌, List, [], ◌∷◌, ◌++◌, ℕ, ◌-◌, eqb}
 use lib.ListN.{get_or, take, replicate}
 use Rattle.answers.specs.Rows.{answer}
-use Rattle.cba_rules.specs.Examples.{keyCalls, keysSo}
-use Rattle.ledger_rules.specs.Ledger.{Ledger, noHeadings, makeRows, fresh, Source, ledgerAnswer, keepAnswer, carryAnswer}
+use Rattle.cba_rules.specs.Examples.{key_calls, keys_so}
+use Rattle.ledger_rules.specs.Ledger.{Ledger, no_headings, make_rows, fresh, Source, ledger_answer, keep_answer, carry_answer}
 use Rattle.ledger_rules.specs.Ledger.Source.{given, named}
 
 -- a nonce of so many bytes: the first two and the last, zeros between
-abbrev exampleNonce : ℕ → ℕ → ℕ → ℕ → List ℕ
-exampleNonce n first second last = take n (first ∷ second ∷ (replicate (n - 3) 0 ++ (last ∷ [])))
+abbrev example_nonce : ℕ → ℕ → ℕ → ℕ → List ℕ
+example_nonce n first second last = take n (first ∷ second ∷ (replicate (n - 3) 0 ++ (last ∷ [])))
 
 -- a ledger with either charge, of a set, a console and a total, begun, whose last nonce is the number 1: the nonce of another console, but
 -- for console 0; something is kept under the name 7
@@ -23,8 +23,8 @@ at heartbeats set console total =
       total = total;
       heartbeats = heartbeats;
       begun = true;
-      last = exampleNonce 12 0 0 1;
-      headings = lib.ListN.set noHeadings 7 (record { kept = true; sum = replicate 16 0 });
+      last = example_nonce 12 0 0 1;
+      headings = lib.ListN.set no_headings 7 (record { kept = true; sum = replicate 16 0 });
     }
 
 -- with either charge: the answer, then set, console and total, the nonce's length, its first two bytes and its last, data, message and room
@@ -72,22 +72,22 @@ namings =
     ∷ (9 ∷ 1 ∷ 0 ∷ 65536 ∷ 12 ∷ 0 ∷ 0 ∷ 1 ∷ 7 ∷ 65536 ∷ 65540 ∷ [])
     ∷ []
 
-unfoldable pub sealsSo : Bool → (ℕ → Source) → List (List ℕ) → Bool
-sealsSo heartbeats source [] = true
-sealsSo heartbeats source (c ∷ cs) =
+unfoldable pub seals_so : Bool → (ℕ → Source) → List (List ℕ) → Bool
+seals_so heartbeats source [] = true
+seals_so heartbeats source (c ∷ cs) =
     let l = at heartbeats (get_or c 1 0) (get_or c 2 0) (get_or c 3 0) in
-    let N = exampleNonce (get_or c 4 0) (get_or c 5 0) (get_or c 6 0) (get_or c 7 0) in
-    eqb (ledgerAnswer l N (source (get_or c 8 0)) (get_or c 9 0) (get_or c 10 0)) (get_or c 0 0) && sealsSo heartbeats source cs
+    let N = example_nonce (get_or c 4 0) (get_or c 5 0) (get_or c 6 0) (get_or c 7 0) in
+    eqb (ledger_answer l N (source (get_or c 8 0)) (get_or c 9 0) (get_or c 10 0)) (get_or c 0 0) && seals_so heartbeats source cs
 
 -- the first on a fresh ledger: the answer, then set, data, message and room
 abbrev pub firsts : List (List ℕ)
 firsts = (0 ∷ 1 ∷ 4096 ∷ 65536 ∷ 65540 ∷ []) ∷ (0 ∷ 1 ∷ 0 ∷ 0 ∷ 4 ∷ []) ∷ (0 ∷ 10 ∷ 0 ∷ 0 ∷ 12 ∷ []) ∷ (7 ∷ 10 ∷ 0 ∷ 0 ∷ 11 ∷ []) ∷ []
 
-unfoldable pub firstsSo : Bool → List (List ℕ) → Bool
-firstsSo heartbeats [] = true
-firstsSo heartbeats (c ∷ cs) =
+unfoldable pub firsts_so : Bool → List (List ℕ) → Bool
+firsts_so heartbeats [] = true
+firsts_so heartbeats (c ∷ cs) =
     let l = fresh heartbeats (get_or c 1 0) [] 0 in
-    eqb (ledgerAnswer l (exampleNonce 12 0 0 0) (given (replicate (get_or c 2 0) 0)) (get_or c 3 0) (get_or c 4 0)) (get_or c 0 0) && firstsSo heartbeats cs
+    eqb (ledger_answer l (example_nonce 12 0 0 0) (given (replicate (get_or c 2 0) 0)) (get_or c 3 0) (get_or c 4 0)) (get_or c 0 0) && firsts_so heartbeats cs
 
 -- data of so many bytes
 abbrev pub zeros : ℕ → Source
@@ -109,25 +109,25 @@ keepings =
     ∷ (4 ∷ 1 ∷ 65536 ∷ 7 ∷ 4097 ∷ [])
     ∷ []
 
-unfoldable pub keepsSo : Bool → List (List ℕ) → Bool
-keepsSo heartbeats [] = true
-keepsSo heartbeats (c ∷ cs) =
-    eqb (keepAnswer (at heartbeats (get_or c 1 0) 0 (get_or c 2 0)) (get_or c 3 0) (get_or c 4 0)) (get_or c 0 0) && keepsSo heartbeats cs
+unfoldable pub keeps_so : Bool → List (List ℕ) → Bool
+keeps_so heartbeats [] = true
+keeps_so heartbeats (c ∷ cs) =
+    eqb (keep_answer (at heartbeats (get_or c 1 0) 0 (get_or c 2 0)) (get_or c 3 0) (get_or c 4 0)) (get_or c 0 0) && keeps_so heartbeats cs
 
 -- calls of set 1 with nothing to count: the total, then the answer with the older charge and the answer with the new one
 abbrev pub empties : List (List ℕ)
 empties = (65535 ∷ 0 ∷ 0 ∷ []) ∷ (65536 ∷ 0 ∷ 10 ∷ []) ∷ (65537 ∷ 10 ∷ 10 ∷ []) ∷ []
 
 -- a sealing of each kind and a keeping answer a
-abbrev answerSo : Ledger → ℕ → Bool
-answerSo l a =
-    let N = exampleNonce 12 0 0 2 in
-    eqb (ledgerAnswer l N (given []) 0 4) a && eqb (ledgerAnswer l N (named 7) 0 4) a && eqb (keepAnswer l 7 0) a
+abbrev answer_so : Ledger → ℕ → Bool
+answer_so l a =
+    let N = example_nonce 12 0 0 2 in
+    eqb (ledger_answer l N (given []) 0 4) a && eqb (ledger_answer l N (named 7) 0 4) a && eqb (keep_answer l 7 0) a
 
-unfoldable pub emptiesSo : List (List ℕ) → Bool
-emptiesSo [] = true
-emptiesSo (c ∷ cs) =
-    answerSo (at false 1 0 (get_or c 0 0)) (get_or c 1 0) && answerSo (at true 1 0 (get_or c 0 0)) (get_or c 2 0) && emptiesSo cs
+unfoldable pub empties_so : List (List ℕ) → Bool
+empties_so [] = true
+empties_so (c ∷ cs) =
+    answer_so (at false 1 0 (get_or c 0 0)) (get_or c 1 0) && answer_so (at true 1 0 (get_or c 0 0)) (get_or c 2 0) && empties_so cs
 
 -- carryings: the answer, then set and total; a full ledger is carried too, and one that is over-full
 abbrev pub carryings : List (List ℕ)
@@ -142,15 +142,15 @@ carryings =
     ∷ (1 ∷ 4294967295 ∷ 65536 ∷ [])
     ∷ []
 
-unfoldable pub carriesSo : Bool → List (List ℕ) → Bool
-carriesSo heartbeats [] = true
-carriesSo heartbeats (c ∷ cs) = eqb (carryAnswer (at heartbeats (get_or c 1 0) 0 (get_or c 2 0))) (get_or c 0 0) && carriesSo heartbeats cs
+unfoldable pub carries_so : Bool → List (List ℕ) → Bool
+carries_so heartbeats [] = true
+carries_so heartbeats (c ∷ cs) = eqb (carry_answer (at heartbeats (get_or c 1 0) 0 (get_or c 2 0))) (get_or c 0 0) && carries_so heartbeats cs
 
 pub record LedgerExamples : Type 0 where
-  pub makings-so : keysSo makeRows keyCalls ≡ true
-  pub firsts-so : (b : Bool) → firstsSo b firsts ≡ true
-  pub sealings-so : (b : Bool) → sealsSo b zeros sealings ≡ true
-  pub namings-so : (b : Bool) → sealsSo b named namings ≡ true
-  pub keepings-so : (b : Bool) → keepsSo b keepings ≡ true
-  pub empties-so : emptiesSo empties ≡ true
-  pub carryings-so : (b : Bool) → carriesSo b carryings ≡ true
+  pub makings_so : keys_so make_rows key_calls ≡ true
+  pub firsts-so : (b : Bool) → firsts_so b firsts ≡ true
+  pub sealings_so : (b : Bool) → seals_so b zeros sealings ≡ true
+  pub namings_so : (b : Bool) → seals_so b named namings ≡ true
+  pub keepings_so : (b : Bool) → keeps_so b keepings ≡ true
+  pub empties-so : empties_so empties ≡ true
+  pub carryings_so : (b : Bool) → carries_so b carryings ≡ true

@@ -23,10 +23,10 @@
 mod lines;
 
 ghost use Rattle.std.specs.Prelude.{◌≡◌, ◌+◌, ◌*◌, length};
-ghost use Rattle.ledger_rules.specs.Ledger.{carriedLedger};
+ghost use Rattle.ledger_rules.specs.Ledger.{carried_ledger};
 ghost use Rattle.ledger.specs.Values.{value_of, Ran};
 ghost use Rattle.script.specs.Records.{part};
-ghost use Rattle.ledger_script.specs.Records.{madeBy, putBy, heldBy, keptBy, sealedBy, named_by};
+ghost use Rattle.ledger_script.specs.Records.{made_by, put_by, held_by, kept_by, sealed_by, named_by};
 
 use crate::lines::{print_call, print_ledger};
 use ledger::{Heading, Ledger, NOTHING, Outcome};
@@ -40,7 +40,7 @@ fn short_number(a: u8, b: u8) -> u16
 }
 
 fn made(r: [u8; 64]) -> Ledger
-    ensures { value_of result ≡ madeBy r }
+    ensures { value_of result ≡ made_by r }
 {
     let end = 8 + least(r[7] as usize, 56);
     let set = number(r[1], r[2], r[3], r[4]);
@@ -72,7 +72,7 @@ fn sum_of(r: [u8; 64]) -> [u8; 16]
 }
 
 fn hand_made(r: [u8; 64]) -> Ledger
-    ensures { value_of result ≡ putBy r }
+    ensures { value_of result ≡ put_by r }
 {
     let high = number(r[39], r[40], r[41], r[42]);
     let low = number(r[43], r[44], r[45], r[46]);
@@ -89,7 +89,7 @@ fn hand_made(r: [u8; 64]) -> Ledger
 }
 
 fn put(r: [u8; 64]) -> Ledger
-    ensures { value_of result ≡ putBy r }
+    ensures { value_of result ≡ put_by r }
 {
     let l = hand_made(r);
     print_call(1);
@@ -99,7 +99,7 @@ fn put(r: [u8; 64]) -> Ledger
 }
 
 fn hold(l: Ledger, r: [u8; 64]) -> Ledger
-    ensures { value_of result ≡ heldBy (value_of l) r }
+    ensures { value_of result ≡ held_by (value_of l) r }
 {
     let i = least(r[1] as usize, 7);
     let sum = sum_of(r);
@@ -130,7 +130,7 @@ fn print_sealed(kind: u8, s: Outcome, out: &[u8]) {
 
 // A keeping of data that have the record's length.
 fn keep(l: Ledger, r: [u8; 64], ad: &mut [u8]) -> Ledger
-    ensures { value_of result ≡ keptBy (value_of l) r (length ad.old) }
+    ensures { value_of result ≡ kept_by (value_of l) r (length ad.old) }
 {
     fill(ad, r[8]);
     let name = number(r[1], r[2], r[3], r[4]);
@@ -148,7 +148,7 @@ fn keep_in(l: Ledger, r: [u8; 64], ad: &mut [u8]) -> Ledger {
 }
 
 fn carry(l: Ledger) -> Ledger
-    ensures { value_of result ≡ carriedLedger (value_of l) }
+    ensures { value_of result ≡ carried_ledger (value_of l) }
 {
     let s = l.carry_over();
     print_outcome(7, s);
@@ -180,7 +180,7 @@ fn seal_by(kind: u8, l: Ledger, nonce: &[u8], ad: &[u8], message: &[u8], out: &m
 
 // A sealing of strings that have the record's lengths.
 fn seal(l: Ledger, r: [u8; 64], ad: &mut [u8], message: &mut [u8], out: &mut [u8]) -> Ledger
-    ensures { value_of result ≡ sealedBy (value_of l) r (length ad.old) (length message.old) (length out.old) }
+    ensures { value_of result ≡ sealed_by (value_of l) r (length ad.old) (length message.old) (length out.old) }
 {
     fill(ad, r[11]);
     fill(message, r[12]);

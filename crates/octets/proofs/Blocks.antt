@@ -18,8 +18,8 @@ pub block-suc : (k : ℕ) (s : List ℕ) (i : ℕ) → block k s (suc i) ≡ blo
 block-suc k s i = rw (drop-drop, mul-suc, add_comm (k * i) k)
 
 -- a full block of s is a block of every string that begins with s
-pub block-append : (k : ℕ) (s z : List ℕ) (i : ℕ) → k * suc i ≤ length s → block k (s ++ z) i ≡ block k s i
-block-append k s z i h =
+pub block_append : (k : ℕ) (s z : List ℕ) (i : ℕ) → k * suc i ≤ length s → block k (s ++ z) i ≡ block k s i
+block_append k s z i h =
     let e = mul-suc k i in
     ap (take k) (drop-append-le (k * i) s z (omega arith))
     ∙ take-append-le k (drop (k * i) s) z (simp length-drop (omega arith))

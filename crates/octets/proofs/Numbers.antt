@@ -73,22 +73,22 @@ pub power-two : (n : ℕ) → 256 ^ n ≡ 2 ^ (8 * n)
 power-two zero = refl
 power-two (suc n) = pow-suc 256 n ∙ ap (λ (p : ℕ). p * 256) (power-two n) ∙ sym (pow-add 2 (8 * n) 8) ∙ ap (λ (k : ℕ). 2 ^ k) {x = 8 * n + 8} {y = 8 * suc n} (omega arith)
 
-pub digits-xor : (n x y : ℕ) → digits n (bit_xor x y) ≡ xors (digits n x) (digits n y)
+pub digits_xor : (n x y : ℕ) → digits n (bit_xor x y) ≡ xors (digits n x) (digits n y)
 unfolding digits xors
-digits-xor zero x y = refl
-digits-xor (suc n) x y =
+digits_xor zero x y = refl
+digits_xor (suc n) x y =
     ap₂ ◌∷◌
     (rw (power-two n) (ap (λ (k : ℕ). k % 256) (xor_shr x y (8 * n)) ∙ xor_mod (x / 2 ^ (8 * n)) (y / 2 ^ (8 * n)) 8))
-    (digits-xor n x y)
+    (digits_xor n x y)
 
 -- ---- digit by digit
 
-pub getD-digits : (n x i : ℕ) → i < n → get_or (digits n x) i 0 ≡ x / 256 ^ (n - suc i) % 256
+pub get_or-digits : (n x i : ℕ) → i < n → get_or (digits n x) i 0 ≡ x / 256 ^ (n - suc i) % 256
 unfolding digits
-getD-digits zero x i h = absurd (not-suc-le-zero h)
-getD-digits (suc n) x zero h = ap (λ (k : ℕ). x / 256 ^ k % 256) {x = n} {y = suc n - 1} (omega arith)
-getD-digits (suc n) x (suc i) h =
-    getD-digits n x i (le_of_suc-le-suc h) ∙ ap (λ (k : ℕ). x / 256 ^ k % 256) {x = n - suc i} {y = suc n - suc (suc i)} (omega arith)
+get_or-digits zero x i h = absurd (not-suc-le-zero h)
+get_or-digits (suc n) x zero h = ap (λ (k : ℕ). x / 256 ^ k % 256) {x = n} {y = suc n - 1} (omega arith)
+get_or-digits (suc n) x (suc i) h =
+    get_or-digits n x i (le_of_suc-le-suc h) ∙ ap (λ (k : ℕ). x / 256 ^ k % 256) {x = n - suc i} {y = suc n - suc (suc i)} (omega arith)
 
 -- one byte more at the end
 pub number_more : (s : List ℕ) (i : ℕ) → i < length s → number (take (i + 1) s) ≡ number (take i s) * 256 + get_or s i 0

@@ -22,9 +22,9 @@ pub bytes_of : (s : List ℕ) → ((i : ℕ) → get_or s i 0 < 256) → Bytes s
 bytes_of [] h = tt
 bytes_of (x ∷ s) h = (h zero, bytes_of s (λ i. h (suc i)))
 
-pub bytes-append : (s t : List ℕ) → Bytes s → Bytes t → Bytes (s ++ t)
-bytes-append [] t a b = b
-bytes-append (x ∷ s) t a b = (a.0, bytes-append s t a.1 b)
+pub bytes_append : (s t : List ℕ) → Bytes s → Bytes t → Bytes (s ++ t)
+bytes_append [] t a b = b
+bytes_append (x ∷ s) t a b = (a.0, bytes_append s t a.1 b)
 
 pub bytes_take : (n : ℕ) (s : List ℕ) → Bytes s → Bytes (take n s)
 bytes_take zero s b = tt
@@ -47,28 +47,28 @@ unfolding table
 length-table f zero = refl
 length-table f (suc n) = simp (length-append, length-table f n) (add-one n)
 
-pub getD-table : (f : ℕ → ℕ) (n k : ℕ) → k < n → get_or (table f n) k 0 ≡ f k
+pub get_or-table : (f : ℕ → ℕ) (n k : ℕ) → k < n → get_or (table f n) k 0 ≡ f k
 unfolding table
-getD-table f zero k h = absurd (not-suc-le-zero h)
-getD-table f (suc n) k h =
+get_or-table f zero k h = absurd (not-suc-le-zero h)
+get_or-table f (suc n) k h =
     ⊎_elim
     (λ (e : k ≡ n). rw e (get_or_at (table f n) (f n) [] 0 n (length-table f n)))
-    (λ (l : k < n). get_or-append (table f n) _ 0 k (rw length-table l) ∙ getD-table f n k l)
+    (λ (l : k < n). get_or-append (table f n) _ 0 k (rw length-table l) ∙ get_or-table f n k l)
     (eq-or-lt_of_le (le_of_suc-le-suc h))
 
 -- a list is given by its elements
 pub table_is : (f : ℕ → ℕ) (n : ℕ) (s : List ℕ) → length s ≡ n → ((k : ℕ) → k < n → f k ≡ get_or s k 0) → table f n ≡ s
 table_is f n s e h =
     ext_get_or 0 (table f n) s (length-table f n ∙ sym e)
-    (λ k l. let m : k < n = rw length-table at l in getD-table f n k m ∙ h k m)
+    (λ k l. let m : k < n = rw length-table at l in get_or-table f n k m ∙ h k m)
 
 pub table_same : (f g : ℕ → ℕ) (n : ℕ) → ((k : ℕ) → k < n → f k ≡ g k) → table f n ≡ table g n
-table_same f g n h = table_is f n (table g n) (length-table g n) (λ k l. h k l ∙ sym (getD-table g n k l))
+table_same f g n h = table_is f n (table g n) (length-table g n) (λ k l. h k l ∙ sym (get_or-table g n k l))
 
 pub bytes-table : (f : ℕ → ℕ) (n : ℕ) → ((k : ℕ) → k < n → f k < 256) → Bytes (table f n)
 unfolding table
 bytes-table f zero h = tt
-bytes-table f (suc n) h = bytes-append (table f n) _ (bytes-table f n (λ k l. h k (omega arith))) (h n (omega arith), tt)
+bytes-table f (suc n) h = bytes_append (table f n) _ (bytes-table f n (λ k l. h k (omega arith))) (h n (omega arith), tt)
 
 -- ---- a loop that fills the first n places of a list d from the front, r[i] = f(i)
 
@@ -83,9 +83,9 @@ pub fill_none : (f : ℕ → ℕ) (n : ℕ) (d : List ℕ) → n ≤ length d �
 unfolding table
 fill_none f n d h = record { within = zero-le; room = h; so_far = refl; long = refl }
 
-pub fill-turn : {f : ℕ → ℕ} {n : ℕ} {d : List ℕ} {i : ℕ} {r : List ℕ} → Filled f n d i r → i < n → Filled f n d (i + 1) (set r i (f i))
+pub fill_turn : {f : ℕ → ℕ} {n : ℕ} {d : List ℕ} {i : ℕ} {r : List ℕ} → Filled f n d i r → i < n → Filled f n d (i + 1) (set r i (f i))
 unfolding table
-fill-turn {f} {n} {d} {i} {r} v h =
+fill_turn {f} {n} {d} {i} {r} v h =
     let l : i < length d = omega arith in
     record {
       within = omega arith;
@@ -97,8 +97,8 @@ fill-turn {f} {n} {d} {i} {r} v h =
     }
 
 -- where what is stored is known by an equation
-pub fill-value : {f : ℕ → ℕ} {n : ℕ} {d : List ℕ} {i : ℕ} {r : List ℕ} {v : ℕ} → Filled f n d i r → i < n → v ≡ f i → Filled f n d (i + 1) (set r i v)
-fill-value {f} {n} {d} {i} {r} w h e = subst (λ (x : ℕ). Filled f n d (i + 1) (set r i x)) (sym e) (fill-turn w h)
+pub fill_value : {f : ℕ → ℕ} {n : ℕ} {d : List ℕ} {i : ℕ} {r : List ℕ} {v : ℕ} → Filled f n d i r → i < n → v ≡ f i → Filled f n d (i + 1) (set r i v)
+fill_value {f} {n} {d} {i} {r} w h e = subst (λ (x : ℕ). Filled f n d (i + 1) (set r i x)) (sym e) (fill_turn w h)
 
 -- the loop is over: the n places are filled, and the others are as they were
 pub filled : {f : ℕ → ℕ} {n : ℕ} {d : List ℕ} {i : ℕ} {r : List ℕ} → Filled f n d i r → n ≤ i → r ≡ table f n ++ drop n d
@@ -109,8 +109,8 @@ pub filled-whole : {f : ℕ → ℕ} {n : ℕ} {d : List ℕ} {i : ℕ} {r : Lis
 filled-whole {f} {n} {d} v k e = filled v k ∙ rw (drop_of_length-le d {i = n} (omega arith)) (append-nil (table f n))
 
 -- a string is given by its own elements
-pub table-getD : (s : List ℕ) → table (λ k. get_or s k 0) (length s) ≡ s
-table-getD s = table_is (λ k. get_or s k 0) (length s) s refl (λ k l. refl)
+pub table-get_or : (s : List ℕ) → table (λ k. get_or s k 0) (length s) ≡ s
+table-get_or s = table_is (λ k. get_or s k 0) (length s) s refl (λ k l. refl)
 
 -- the first n bytes of a string
 pub table-take : (n : ℕ) (s : List ℕ) → n ≤ length s → table (λ k. get_or s k 0) n ≡ take n s

@@ -29,8 +29,8 @@ pub eqs-same : (s : List ℕ) → eqs s s ≡ true
 eqs-same [] = refl
 eqs-same (x ∷ s) = rw (eq-eqb x x refl, eqs-same s)
 
-pub eqs-other : (s t : List ℕ) → (s ≡ t → ⊥) → eqs s t ≡ false
-eqs-other s t h = go (eqs s t) refl
+pub eqs_other : (s t : List ℕ) → (s ≡ t → ⊥) → eqs s t ≡ false
+eqs_other s t h = go (eqs s t) refl
   where
     go : (b : Bool) → eqs s t ≡ b → b ≡ false
     go true e = absurd (h (eqs→eq s t (subst T (sym e) tt)))
@@ -51,8 +51,8 @@ same f g (suc n) t k h =
 
 -- ---- cases
 
-pub le-or-lt : (m n : ℕ) → (m ≤ n) ⊎ (n < m)
-le-or-lt m n = go (leb m n) refl
+pub le_or_lt : (m n : ℕ) → (m ≤ n) ⊎ (n < m)
+le_or_lt m n = go (leb m n) refl
   where
     go : (b : Bool) → leb m n ≡ b → (m ≤ n) ⊎ (n < m)
     go true e = inl (leb-true m n e)

@@ -15,47 +15,47 @@ use Rattle.octets.proofs.Strings.{table_is, table_same}
 
 -- ---- numbers
 
-differ-mod : (x y : ℕ) → x < 2 → y < 2 → differ x y ≡ (x + y) % 2
-differ-mod zero y h k = omega arith
-differ-mod (suc zero) zero h k = refl
-differ-mod (suc zero) (suc zero) h k = refl
-differ-mod (suc zero) (suc (suc y)) h k = absurd (omega arith)
-differ-mod (suc (suc x)) y h k = absurd (omega arith)
+differ_mod : (x y : ℕ) → x < 2 → y < 2 → differ x y ≡ (x + y) % 2
+differ_mod zero y h k = omega arith
+differ_mod (suc zero) zero h k = refl
+differ_mod (suc zero) (suc zero) h k = refl
+differ_mod (suc zero) (suc (suc y)) h k = absurd (omega arith)
+differ_mod (suc (suc x)) y h k = absurd (omega arith)
 
 -- the lowest digit of a ⊕ b, and the others
 low : (a b : ℕ) → bit_xor a b ≡ bit_xor (a / 2) (b / 2) * 2 + (a % 2 + b % 2) % 2
-low a b = xor_step a b ∙ ap (λ (d : ℕ). bit_xor (a / 2) (b / 2) * 2 + d) (differ-mod (a % 2) (b % 2) (omega arith) (omega arith))
+low a b = xor_step a b ∙ ap (λ (d : ℕ). bit_xor (a / 2) (b / 2) * 2 + d) (differ_mod (a % 2) (b % 2) (omega arith) (omega arith))
 
-pub xor-half : (a b : ℕ) → bit_xor a b / 2 ≡ bit_xor (a / 2) (b / 2)
-xor-half a b = omega (arith, low a b)
+pub xor_half : (a b : ℕ) → bit_xor a b / 2 ≡ bit_xor (a / 2) (b / 2)
+xor_half a b = omega (arith, low a b)
 
-pub xor-odd : (a b : ℕ) → bit_xor a b % 2 ≡ (a % 2 + b % 2) % 2
-xor-odd a b = omega (arith, low a b)
+pub xor_odd : (a b : ℕ) → bit_xor a b % 2 ≡ (a % 2 + b % 2) % 2
+xor_odd a b = omega (arith, low a b)
 
-mod-inside : (p q : ℕ) → (p % 2 + q) % 2 ≡ (p + q) % 2
-mod-inside p q = omega arith
+mod_inside : (p q : ℕ) → (p % 2 + q) % 2 ≡ (p + q) % 2
+mod_inside p q = omega arith
 
 bits-assoc : (x y z : ℕ) → ((x + y) % 2 + z) % 2 ≡ (x + (y + z) % 2) % 2
 bits-assoc x y z =
-    mod-inside (x + y) z ∙ ap (λ (k : ℕ). k % 2) (add_assoc x y z ∙ add_comm x (y + z))
-    ∙ sym (mod-inside (y + z) x)
+    mod_inside (x + y) z ∙ ap (λ (k : ℕ). k % 2) (add_assoc x y z ∙ add_comm x (y + z))
+    ∙ sym (mod_inside (y + z) x)
     ∙ ap (λ (k : ℕ). k % 2) (add_comm ((y + z) % 2) x)
 
 pub xor_assoc : (a b c : ℕ) → bit_xor (bit_xor a b) c ≡ bit_xor a (bit_xor b c)
 xor_assoc =
     bin_ind (λ (a : ℕ). (b c : ℕ) → bit_xor (bit_xor a b) c ≡ bit_xor a (bit_xor b c)) (λ b c. refl)
     (λ a ih b c.
-    rw (low (bit_xor a b) c, low a (bit_xor b c), xor-half a b, xor-half b c, xor-odd a b, xor-odd b c)
+    rw (low (bit_xor a b) c, low a (bit_xor b c), xor_half a b, xor_half b c, xor_odd a b, xor_odd b c)
     (ap₂ (λ (q d : ℕ). q * 2 + d) (ih (b / 2) (c / 2)) (bits-assoc (a % 2) (b % 2) (c % 2))))
 
-pub xor-left-comm : (a b c : ℕ) → bit_xor a (bit_xor b c) ≡ bit_xor b (bit_xor a c)
-xor-left-comm a b c = sym (xor_assoc a b c) ∙ ap (λ (x : ℕ). bit_xor x c) (xor_comm a b) ∙ xor_assoc b a c
+pub xor_left-comm : (a b c : ℕ) → bit_xor a (bit_xor b c) ≡ bit_xor b (bit_xor a c)
+xor_left-comm a b c = sym (xor_assoc a b c) ∙ ap (λ (x : ℕ). bit_xor x c) (xor_comm a b) ∙ xor_assoc b a c
 
-pub xor-cancel : (a b : ℕ) → bit_xor a (bit_xor a b) ≡ b
-xor-cancel a b = sym (xor_assoc a a b) ∙ ap (λ (x : ℕ). bit_xor x b) (xor_self a) ∙ xor_zero_l b
+pub xor_cancel : (a b : ℕ) → bit_xor a (bit_xor a b) ≡ b
+xor_cancel a b = sym (xor_assoc a a b) ∙ ap (λ (x : ℕ). bit_xor x b) (xor_self a) ∙ xor_zero_l b
 
-pub xor-byte : (a b : ℕ) → a < 256 → b < 256 → bit_xor a b < 256
-xor-byte a b h k = xor_lt 8 a b h k
+pub xor_byte : (a b : ℕ) → a < 256 → b < 256 → bit_xor a b < 256
+xor_byte a b h k = xor_lt 8 a b h k
 
 -- ---- strings
 
@@ -69,7 +69,7 @@ pub bytes-xors : (a b : List ℕ) → Bytes a → Bytes b → Bytes (xors a b)
 unfolding xors
 bytes-xors [] b h k = tt
 bytes-xors (x ∷ a) [] h k = tt
-bytes-xors (x ∷ a) (y ∷ b) h k = (xor-byte x y h.0 k.0, bytes-xors a b h.1 k.1)
+bytes-xors (x ∷ a) (y ∷ b) h k = (xor_byte x y h.0 k.0, bytes-xors a b h.1 k.1)
 
 pub xors-comm : (a b : List ℕ) → xors a b ≡ xors b a
 unfolding xors
@@ -90,7 +90,7 @@ unfolding xors
 xors-cancel [] [] h = refl
 xors-cancel [] (y ∷ b) h = absurd (not-suc-le-zero h)
 xors-cancel (x ∷ a) [] h = refl
-xors-cancel (x ∷ a) (y ∷ b) h = ap₂ ◌∷◌ (xor-cancel x y) (xors-cancel a b (le_of_suc-le-suc h))
+xors-cancel (x ∷ a) (y ∷ b) h = ap₂ ◌∷◌ (xor_cancel x y) (xors-cancel a b (le_of_suc-le-suc h))
 
 pub xors-self : (a : List ℕ) → xors a a ≡ replicate (length a) 0
 unfolding xors
@@ -117,25 +117,25 @@ drop-xors (suc n) [] b = refl
 drop-xors (suc n) (x ∷ a) [] = xors-comm [] (drop n a)
 drop-xors (suc n) (x ∷ a) (y ∷ b) = drop-xors n a b
 
-pub append-xors : (a b c d : List ℕ) → length a ≡ length b → xors (a ++ c) (b ++ d) ≡ xors a b ++ xors c d
+pub append_xors : (a b c d : List ℕ) → length a ≡ length b → xors (a ++ c) (b ++ d) ≡ xors a b ++ xors c d
 unfolding xors
-append-xors [] [] c d h = refl
-append-xors [] (y ∷ b) c d h = absurd (omega arith)
-append-xors (x ∷ a) [] c d h = absurd (omega arith)
-append-xors (x ∷ a) (y ∷ b) c d h = ap (λ (s : List ℕ). bit_xor x y ∷ s) (append-xors a b c d (omega arith))
+append_xors [] [] c d h = refl
+append_xors [] (y ∷ b) c d h = absurd (omega arith)
+append_xors (x ∷ a) [] c d h = absurd (omega arith)
+append_xors (x ∷ a) (y ∷ b) c d h = ap (λ (s : List ℕ). bit_xor x y ∷ s) (append_xors a b c d (omega arith))
 
-pub getD-xors : (a b : List ℕ) (i : ℕ) → i < length a → i < length b → get_or (xors a b) i 0 ≡ bit_xor (get_or a i 0) (get_or b i 0)
+pub get_or-xors : (a b : List ℕ) (i : ℕ) → i < length a → i < length b → get_or (xors a b) i 0 ≡ bit_xor (get_or a i 0) (get_or b i 0)
 unfolding xors
-getD-xors [] b i h k = absurd (not-suc-le-zero h)
-getD-xors (x ∷ a) [] i h k = absurd (not-suc-le-zero k)
-getD-xors (x ∷ a) (y ∷ b) zero h k = refl
-getD-xors (x ∷ a) (y ∷ b) (suc i) h k = getD-xors a b i (le_of_suc-le-suc h) (le_of_suc-le-suc k)
+get_or-xors [] b i h k = absurd (not-suc-le-zero h)
+get_or-xors (x ∷ a) [] i h k = absurd (not-suc-le-zero k)
+get_or-xors (x ∷ a) (y ∷ b) zero h k = refl
+get_or-xors (x ∷ a) (y ∷ b) (suc i) h k = get_or-xors a b i (le_of_suc-le-suc h) (le_of_suc-le-suc k)
 
 -- the string whose bytes are the exclusive or of those of a and b
 pub xors-table : (n : ℕ) (a b : List ℕ) → length a ≡ n → length b ≡ n → table (λ k. bit_xor (get_or a k 0) (get_or b k 0)) n ≡ xors a b
 xors-table n a b p q =
     table_is _ n (xors a b) (length-xors a b ∙ omega arith)
-    (λ k h. sym (getD-xors a b k (omega arith) (omega arith)))
+    (λ k h. sym (get_or-xors a b k (omega arith) (omega arith)))
 
 -- the exclusive or of a with the part of b that begins at p
 pub xors-part : (n p : ℕ) (a b : List ℕ) → length a ≡ n → p + n ≤ length b →

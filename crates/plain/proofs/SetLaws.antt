@@ -13,12 +13,12 @@ use Rattle.octets.proofs.Tests.{agree, same}
 use Rattle.cba_steps.specs.declared.parameters.Parameters.{Parameters}
 use Rattle.plain.specs.declared.sets.Set.{Set}
 use Rattle.plain.specs.declared.sets.Set.TheVariants.{Known, Unknown}
-use Rattle.cba_mode.specs.Sets.{is_set, column, keyBytes, tagBytes}
-use Rattle.cba_rules.specs.Checks.{setTag, badSet, badKey, keyRows}
+use Rattle.cba_mode.specs.Sets.{is_set, column, key_bytes, tag_bytes}
+use Rattle.cba_rules.specs.Checks.{set_tag, bad_set, bad_key, key_rows}
 use Rattle.cba_rules.proofs.SetLaws.{key-most}
 use Rattle.cba_rules.proofs.RefusalLaws.{key-passed}
 use Rattle.answers.specs.Rows.{Row, answer}
-use Rattle.plain.specs.Lookup.{lookupOf, number_of, values_of, LooksUp}
+use Rattle.plain.specs.Lookup.{lookup_of, number_of, values_of, LooksUp}
 
 -- τ and b are bytes
 cut : ℕ → List ℕ
@@ -56,76 +56,76 @@ unfolding number_of
 number_at p true = refl
 number_at p false = refl
 
-values-at : (p : Parameters) (x : Bool) → values_of (cond x (Known p) Unknown) ≡ cond x (p.key ∷ p.tau ∷ p.capacity ∷ []) []
+values_at : (p : Parameters) (x : Bool) → values_of (cond x (Known p) Unknown) ≡ cond x (p.key ∷ p.tau ∷ p.capacity ∷ []) []
 unfolding values_of
-values-at p true = refl
-values-at p false = refl
+values_at p true = refl
+values_at p false = refl
 
-looked-up : (n : ℕ) (r : Set) → r ≡ lookupOf n → LooksUp n r
-unfolding lookupOf answer
+looked-up : (n : ℕ) (r : Set) → r ≡ lookup_of n → LooksUp n r
+unfolding lookup_of answer
 looked-up n r e =
-    record { case-is = e; number_is = ap number_of e ∙ number_at _ (is_set n); values-are = ap values_of e ∙ values-at _ (is_set n) }
+    record { case_is = e; number_is = ap number_of e ∙ number_at _ (is_set n); values_are = ap values_of e ∙ values_at _ (is_set n) }
 
 pub known : (n : ℕ) → 1 ≤ n → n ≤ 10 → LooksUp n (Known (record { key = column 0 n; tau = column 1 n % 256; capacity = column 2 n % 256 }))
-unfolding lookupOf
+unfolding lookup_of
 known n h k =
     looked-up n _
     (rw (is-set n h k) (ap₂ (λ (x y : ℕ). Known (record { key = column 0 n; tau = x; capacity = y })) (small n k).0 (small n k).1))
 
 pub unknown : (n : ℕ) → is_set n ≡ false → LooksUp n Unknown
-unfolding lookupOf
+unfolding lookup_of
 unknown n h = looked-up n Unknown (rw h refl)
 
 -- ---- a known set
 
-isKnown : Set → Bool
-isKnown (Known p) = true
-isKnown Unknown = false
+is_known_set : Set → Bool
+is_known_set (Known p) = true
+is_known_set Unknown = false
 
-known_is : (p : Parameters) (x : Bool) → isKnown (cond x (Known p) Unknown) ≡ x
-unfolding isKnown
+known_is : (p : Parameters) (x : Bool) → is_known_set (cond x (Known p) Unknown) ≡ x
+unfolding is_known_set
 known_is p true = refl
 known_is p false = refl
 
-pub is_known : (set : ℕ) (p : Parameters) → lookupOf set ≡ Known p → is_set set ≡ true
-unfolding lookupOf isKnown
-is_known set p h = sym (known_is (record { key = column 0 set; tau = column 1 set; capacity = column 2 set }) (is_set set)) ∙ ap isKnown h
+pub is_known : (set : ℕ) (p : Parameters) → lookup_of set ≡ Known p → is_set set ≡ true
+unfolding lookup_of is_known_set
+is_known set p h = sym (known_is (record { key = column 0 set; tau = column 1 set; capacity = column 2 set }) (is_set set)) ∙ ap is_known_set h
 
-pub is-unknown : (set : ℕ) → lookupOf set ≡ Unknown → is_set set ≡ false
-unfolding lookupOf isKnown
-is-unknown set h = sym (known_is (record { key = column 0 set; tau = column 1 set; capacity = column 2 set }) (is_set set)) ∙ ap isKnown h
+pub is-unknown : (set : ℕ) → lookup_of set ≡ Unknown → is_set set ≡ false
+unfolding lookup_of is_known_set
+is-unknown set h = sym (known_is (record { key = column 0 set; tau = column 1 set; capacity = column 2 set }) (is_set set)) ∙ ap is_known_set h
 
-pub its-values : (set : ℕ) (p : Parameters) → lookupOf set ≡ Known p → (p.key ≡ column 0 set) × (p.tau ≡ column 1 set) × (p.capacity ≡ column 2 set)
-unfolding lookupOf values_of
-its-values set p h =
+pub its_values : (set : ℕ) (p : Parameters) → lookup_of set ≡ Known p → (p.key ≡ column 0 set) × (p.tau ≡ column 1 set) × (p.capacity ≡ column 2 set)
+unfolding lookup_of values_of
+its_values set p h =
     let e : column 0 set ∷ column 1 set ∷ column 2 set ∷ [] ≡ p.key ∷ p.tau ∷ p.capacity ∷ [] = sym (ap (λ (x : Bool). values_of (cond x (Known (record { key = column 0 set; tau = column 1 set; capacity = column 2 set })) Unknown)) (is_known set p h)) ∙ ap values_of h in
     (sym (ap (λ (l : List ℕ). get_or l 0 0) e), sym (ap (λ (l : List ℕ). get_or l 1 0) e), sym (ap (λ (l : List ℕ). get_or l 2 0) e))
 
-pub its-key : (set : ℕ) (p : Parameters) → lookupOf set ≡ Known p → p.key / 8 ≡ keyBytes set
-its-key set p h = ap (λ (x : ℕ). x / 8) (its-values set p h).0
+pub its_key : (set : ℕ) (p : Parameters) → lookup_of set ≡ Known p → p.key / 8 ≡ key_bytes set
+its_key set p h = ap (λ (x : ℕ). x / 8) (its_values set p h).0
 
-pub its-tag : (set : ℕ) (p : Parameters) → lookupOf set ≡ Known p → tagBytes p.tau ≡ setTag set
-its-tag set p h = ap tagBytes (its-values set p h).1
+pub its_tag : (set : ℕ) (p : Parameters) → lookup_of set ≡ Known p → tag_bytes p.tau ≡ set_tag set
+its_tag set p h = ap tag_bytes (its_values set p h).1
 
 -- a call that looks for the set first answers 1 without one, and else goes on
-pub unknown-answers : (set : ℕ) (rows : List Row) → lookupOf set ≡ Unknown → 1 ≡ answer (badSet set ∷ rows)
+pub unknown-answers : (set : ℕ) (rows : List Row) → lookup_of set ≡ Unknown → 1 ≡ answer (bad_set set ∷ rows)
 unfolding answer
 unknown-answers set rows h = rw (is-unknown set h) refl
 
-pub known-goes-on : (set : ℕ) (p : Parameters) (rows : List Row) → lookupOf set ≡ Known p → answer rows ≡ answer (badSet set ∷ rows)
+pub known-goes_on : (set : ℕ) (p : Parameters) (rows : List Row) → lookup_of set ≡ Known p → answer rows ≡ answer (bad_set set ∷ rows)
 unfolding answer
-known-goes-on set p rows h = rw (is_known set p h) refl
+known-goes_on set p rows h = rw (is_known set p h) refl
 
 -- and then for the key
-pub key-known : (set : ℕ) (p : Parameters) (key : ℕ) → lookupOf set ≡ Known p → answer (badKey (p.key / 8) key ∷ []) ≡ answer (keyRows set key)
-key-known set p key h = ap (λ (n : ℕ). answer (badKey n key ∷ [])) (its-key set p h) ∙ known-goes-on set p (badKey (keyBytes set) key ∷ []) h
+pub key-known : (set : ℕ) (p : Parameters) (key : ℕ) → lookup_of set ≡ Known p → answer (bad_key (p.key / 8) key ∷ []) ≡ answer (key_rows set key)
+key-known set p key h = ap (λ (n : ℕ). answer (bad_key n key ∷ [])) (its_key set p h) ∙ known-goes_on set p (bad_key (key_bytes set) key ∷ []) h
 
-pub key-limit : (set key : ℕ) → answer (keyRows set key) ≡ 0 → key ≤ 32
+pub key-limit : (set key : ℕ) → answer (key_rows set key) ≡ 0 → key ≤ 32
 key-limit set key e = let a = key-passed set key e in omega (arith, a.1, key-most set a.0)
 
 -- the part of a key of 32 bytes that a set uses
-pub key-part : (set : ℕ) (p : Parameters) (n : ℕ) (key : List ℕ) → lookupOf set ≡ Known p → n ≡ p.key / 8 → length key ≡ 32 →
+pub key-part : (set : ℕ) (p : Parameters) (n : ℕ) (key : List ℕ) → lookup_of set ≡ Known p → n ≡ p.key / 8 → length key ≡ 32 →
     (n ≤ length key) × (n ≡ length (take n key))
 key-part set p n key h e k =
-    let m : n ≤ length key = omega (arith, e ∙ its-key set p h, key-most set (is_known set p h), k) in
+    let m : n ≤ length key = omega (arith, e ∙ its_key set p h, key-most set (is_known set p h), k) in
     (m, sym (length-take-le n key m))

@@ -5,11 +5,11 @@ use Rattle.plain.specs.declared.sets.Set.{Set}
 use Rattle.plain.specs.declared.sets.Set.TheVariants.{Known, Unknown}
 use Rattle.cba_mode.specs.Sets.{is_set, column}
 use Rattle.answers.specs.Rows.{answer}
-use Rattle.cba_rules.specs.Checks.{badSet}
+use Rattle.cba_rules.specs.Checks.{bad_set}
 
 -- a set's number yields its key bits, τ and b; any other yields nothing
-unfoldable pub lookupOf : ℕ → Set
-lookupOf n = cond (is_set n) (Known (record { key = column 0 n; tau = column 1 n; capacity = column 2 n })) Unknown
+unfoldable pub lookup_of : ℕ → Set
+lookup_of n = cond (is_set n) (Known (record { key = column 0 n; tau = column 1 n; capacity = column 2 n })) Unknown
 
 -- the answer that a case stands for: none is refusal 1
 unfoldable pub number_of : Set → ℕ
@@ -23,6 +23,6 @@ values_of Unknown = []
 
 -- what the lookup of n gives: that case; its number is what the table's first row answers, and its values are the set's
 pub record LooksUp (n : ℕ) (r : Set) : Type 0 where
-  pub case-is : r ≡ lookupOf n
-  pub number_is : number_of r ≡ answer (badSet n ∷ [])
-  pub values-are : values_of r ≡ cond (is_set n) (column 0 n ∷ column 1 n ∷ column 2 n ∷ []) []
+  pub case_is : r ≡ lookup_of n
+  pub number_is : number_of r ≡ answer (bad_set n ∷ [])
+  pub values_are : values_of r ≡ cond (is_set n) (column 0 n ∷ column 1 n ∷ column 2 n ∷ []) []

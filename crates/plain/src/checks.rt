@@ -2,8 +2,8 @@
 // call puts its groups together by first_of, in the order of its rows.
 ghost use Rattle.std.specs.Prelude.{◌≡◌, [], ◌∷◌, ◌/◌};
 ghost use Rattle.answers.specs.Rows.{answer, first_of};
-ghost use Rattle.cba_mode.specs.Sets.{tagBytes};
-ghost use Rattle.cba_rules.specs.Checks.{badKey, badNonce, badStart, longData, messageRows, ciphertextRows};
+ghost use Rattle.cba_mode.specs.Sets.{tag_bytes};
+ghost use Rattle.cba_rules.specs.Checks.{bad_key, bad_nonce, bad_start, long_data, message_rows, ciphertext_rows};
 
 use cba_steps::Parameters;
 
@@ -25,7 +25,7 @@ pub fn first_of(a: u32, b: u32) -> u32
 
 // 2, for a set that is known.
 pub fn key_check(p: Parameters, key: usize) -> u32
-    ensures { result ≡ answer (badKey (p.key / 8) key ∷ []) }
+    ensures { result ≡ answer (bad_key (p.key / 8) key ∷ []) }
 {
     if key != p.key_bytes() {
         return 2;
@@ -35,7 +35,7 @@ pub fn key_check(p: Parameters, key: usize) -> u32
 
 // 3.
 pub fn nonce_check(nonce: usize) -> u32
-    ensures { result ≡ answer (badNonce nonce ∷ []) }
+    ensures { result ≡ answer (bad_nonce nonce ∷ []) }
 {
     if nonce != NONCE {
         return 3;
@@ -45,7 +45,7 @@ pub fn nonce_check(nonce: usize) -> u32
 
 // 12, by the number that a nonce begins with.
 pub fn start_check(its: u64, start: u64) -> u32
-    ensures { result ≡ answer (badStart its start ∷ []) }
+    ensures { result ≡ answer (bad_start its start ∷ []) }
 {
     if start != its {
         return 12;
@@ -55,7 +55,7 @@ pub fn start_check(its: u64, start: u64) -> u32
 
 // 4.
 pub fn ad_check(ad: usize) -> u32
-    ensures { result ≡ answer (longData ad ∷ []) }
+    ensures { result ≡ answer (long_data ad ∷ []) }
 {
     if ad > MOST_DATA {
         return 4;
@@ -65,7 +65,7 @@ pub fn ad_check(ad: usize) -> u32
 
 // 5 and 7 of a sealing.
 pub fn message_check(p: Parameters, message: usize, room: usize) -> u32
-    ensures { result ≡ answer (messageRows (tagBytes p.tau) message room) }
+    ensures { result ≡ answer (message_rows (tag_bytes p.tau) message room) }
 {
     if message > MOST_MESSAGE {
         return 5;
@@ -78,7 +78,7 @@ pub fn message_check(p: Parameters, message: usize, room: usize) -> u32
 
 // 5, 6 and 7 of an opening.
 pub fn ciphertext_check(p: Parameters, ciphertext: usize, room: usize) -> u32
-    ensures { result ≡ answer (ciphertextRows (tagBytes p.tau) ciphertext room) }
+    ensures { result ≡ answer (ciphertext_rows (tag_bytes p.tau) ciphertext room) }
 {
     let t = p.tag_bytes();
     if ciphertext > MOST_MESSAGE + t {

@@ -1,11 +1,11 @@
 // Plain opening.
 ghost use Rattle.std.specs.Prelude.{◌≡◌, ◌-◌, ◌/◌};
 ghost use Rattle.answers.specs.Rows.{answer};
-ghost use Rattle.cba_mode.specs.Sets.{tagBytes};
-ghost use Rattle.cba_rules.specs.Checks.{openChecks};
+ghost use Rattle.cba_mode.specs.Sets.{tag_bytes};
+ghost use Rattle.cba_rules.specs.Checks.{open_checks};
 ghost use Rattle.cba_rules.specs.Refusals.{OpenCall};
 ghost use Rattle.plain.specs.declared.sets.Set.TheVariants.{Known};
-ghost use Rattle.plain.specs.Lookup.{lookupOf};
+ghost use Rattle.plain.specs.Lookup.{lookup_of};
 ghost use Rattle.plain.specs.Accepted.{Openable, OpenedBy};
 
 use crate::checks::{ad_check, ciphertext_check, first_of, key_check, nonce_check};
@@ -22,7 +22,7 @@ fn open_checks(
     ciphertext: usize,
     room: usize,
 ) -> u32
-    ensures { result ≡ answer (openChecks (p.key / 8) (tagBytes p.tau) key nonce ad ciphertext room) }
+    ensures { result ≡ answer (open_checks (p.key / 8) (tag_bytes p.tau) key nonce ad ciphertext room) }
 {
     let a = key_check(p, key);
     let b = first_of(a, nonce_check(nonce));
@@ -59,7 +59,7 @@ fn open_known(
     ciphertext: &[u8],
     out: &mut [u8],
 ) -> u32
-    requires { lookupOf set ≡ Known p }
+    requires { lookup_of set ≡ Known p }
     ensures { OpenCall set key.now nonce.now ad.now ciphertext.now out.old result out.new }
 {
     let refusal = open_checks(

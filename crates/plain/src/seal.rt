@@ -1,11 +1,11 @@
 // Plain sealing.
 ghost use Rattle.std.specs.Prelude.{◌≡◌, ◌/◌};
 ghost use Rattle.answers.specs.Rows.{answer};
-ghost use Rattle.cba_mode.specs.Sets.{tagBytes};
-ghost use Rattle.cba_rules.specs.Checks.{sealChecks};
+ghost use Rattle.cba_mode.specs.Sets.{tag_bytes};
+ghost use Rattle.cba_rules.specs.Checks.{seal_checks};
 ghost use Rattle.cba_rules.specs.Refusals.{SealCall};
 ghost use Rattle.plain.specs.declared.sets.Set.TheVariants.{Known};
-ghost use Rattle.plain.specs.Lookup.{lookupOf};
+ghost use Rattle.plain.specs.Lookup.{lookup_of};
 ghost use Rattle.plain.specs.Accepted.{Sealable, SealedBy};
 
 use crate::checks::{ad_check, first_of, key_check, message_check, nonce_check};
@@ -22,7 +22,7 @@ fn seal_checks(
     message: usize,
     room: usize,
 ) -> u32
-    ensures { result ≡ answer (sealChecks (p.key / 8) (tagBytes p.tau) key nonce ad message room) }
+    ensures { result ≡ answer (seal_checks (p.key / 8) (tag_bytes p.tau) key nonce ad message room) }
 {
     let a = key_check(p, key);
     let b = first_of(a, nonce_check(nonce));
@@ -52,7 +52,7 @@ fn seal_known(
     message: &[u8],
     out: &mut [u8],
 ) -> u32
-    requires { lookupOf set ≡ Known p }
+    requires { lookup_of set ≡ Known p }
     ensures { SealCall set key.now nonce.now ad.now message.now out.old result out.new }
 {
     let refusal = seal_checks(

@@ -10,16 +10,16 @@ use lib.Pow.{pow-add, shl_exact}
 use Rattle.window_rules.specs.Window.{Window}
 
 -- a late counter's mark added
-abbrev pub with-mark : Window → ℕ → Window
-with-mark w x = record { begun = true; highest = w.highest; marks = bit_or w.marks x }
+abbrev pub with_mark : Window → ℕ → Window
+with_mark w x = record { begun = true; highest = w.highest; marks = bit_or w.marks x }
 
 -- one bit of it
 pub one-mark : (i : ℕ) → i < 64 → 1 * 2 ^ i % 2 ^ 64 ≡ 2 ^ i
 one-mark i h = shl_exact {a = 1} 1 i 64 (omega arith) (omega arith) ∙ one-mul (2 ^ i)
 
 -- all that moves up by 64 or more is lost
-pub all-lost : (marks by : ℕ) → 64 ≤ by → 0 ≡ marks * 2 ^ by % 2 ^ 64
-all-lost marks by h = subst (λ (k : ℕ). 0 ≡ marks * 2 ^ k % 2 ^ 64) {x = by - 64 + 64} {y = by} (omega arith) (go (by - 64))
+pub all_lost : (marks by : ℕ) → 64 ≤ by → 0 ≡ marks * 2 ^ by % 2 ^ 64
+all_lost marks by h = subst (λ (k : ℕ). 0 ≡ marks * 2 ^ k % 2 ^ 64) {x = by - 64 + 64} {y = by} (omega arith) (go (by - 64))
   where
     go : (k : ℕ) → 0 ≡ marks * 2 ^ (k + 64) % 2 ^ 64
     go k = rw (pow-add 2 k 64, ← mul_assoc marks (2 ^ k) (2 ^ 64)) (sym (mul-mod_left (marks * 2 ^ k) (2 ^ 64)))

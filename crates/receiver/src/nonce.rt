@@ -1,7 +1,7 @@
 // The parts of a nonce as numbers.
 ghost use Rattle.std.specs.Prelude.{◌≡◌, ◌≤◌, length};
 ghost use Rattle.octets.specs.Numbers.{number};
-ghost use Rattle.receiver_rules.specs.Receiver.{prefix_of, counterOf};
+ghost use Rattle.receiver_rules.specs.Receiver.{prefix_of, counter_of};
 
 fn big_endian(s: &[u8]) -> u64
     requires { length s.now ≤ 8 }
@@ -26,7 +26,7 @@ pub fn prefix_of(nonce: &[u8]) -> u64
 
 pub fn counter_of(nonce: &[u8]) -> u64
     requires { length nonce.now ≡ 12 }
-    ensures { result ≡ counterOf nonce.now }
+    ensures { result ≡ counter_of nonce.now }
 {
     big_endian(&nonce[4..])
 }

@@ -1,8 +1,8 @@
 // A receiver is a value: each call returns the next one.
 ghost use Rattle.std.specs.Prelude.{◌≡◌, false, ◌≤◌, length};
-ghost use Rattle.window_rules.specs.Window.{isRepeat};
-ghost use Rattle.receiver_rules.specs.Receiver.{noReceiver, begin, makeAnswer, madeReceiver, withCounter};
-ghost use Rattle.receiver.specs.Values.{windowOf, value_of, Ready, Received};
+ghost use Rattle.window_rules.specs.Window.{is_repeat};
+ghost use Rattle.receiver_rules.specs.Receiver.{no_receiver, begin, make_answer, made_receiver, with_counter};
+ghost use Rattle.receiver.specs.Values.{window_of, value_of, Ready, Received};
 
 use crate::checks::{length_checks, make_checks};
 use crate::nonce::counter_of;
@@ -35,7 +35,7 @@ const NO_COUNTER: Window = Window {
 
 // The receiver of a refused making.
 fn none() -> Receiver
-    ensures { value_of result ≡ noReceiver }
+    ensures { value_of result ≡ no_receiver }
 {
     Receiver {
         set: 0,
@@ -63,8 +63,8 @@ fn begin(set: u32, key: &[u8], prefix: u32) -> Receiver
 // Makes the receiver of a key and of nonces that begin with prefix, big-endian, and answers 0, or
 // answers 1 or 2.
 pub fn make(set: u32, key: &[u8], prefix: u32) -> Outcome
-    ensures answer_value { result.answer ≡ makeAnswer set key.now }
-    ensures receiver_value { value_of result.receiver ≡ madeReceiver set key.now prefix }
+    ensures answer_value { result.answer ≡ make_answer set key.now }
+    ensures receiver_value { value_of result.receiver ≡ made_receiver set key.now prefix }
 {
     let refusal = make_checks(set, key.len());
     if refusal != 0 {
@@ -81,8 +81,8 @@ pub fn make(set: u32, key: &[u8], prefix: u32) -> Outcome
 
 // The receiver after an accepted opening: the counter recorded.
 fn next(v: Receiver, counter: u64) -> Receiver
-    requires { isRepeat (windowOf v.window) counter ≡ false }
-    ensures { value_of result ≡ withCounter (value_of v) counter }
+    requires { is_repeat (window_of v.window) counter ≡ false }
+    ensures { value_of result ≡ with_counter (value_of v) counter }
 {
     let w = v.window;
     let mut after = v;

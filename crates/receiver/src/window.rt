@@ -1,7 +1,7 @@
 // The window over counters: a repeat, and a counter recorded.
 ghost use Rattle.std.specs.Prelude.{◌≡◌, false, ◌*◌, ◌%◌, ◌^◌};
-ghost use Rattle.window_rules.specs.Window.{isRepeat, recorded};
-ghost use Rattle.receiver.specs.Values.{windowOf};
+ghost use Rattle.window_rules.specs.Window.{is_repeat, recorded};
+ghost use Rattle.receiver.specs.Values.{window_of};
 
 const REACH: u64 = 64;
 
@@ -16,7 +16,7 @@ pub struct Window {
 
 // Whether a counter was accepted before, or is too far below the highest to tell.
 pub fn is_repeat(w: Window, counter: u64) -> bool
-    ensures { result ≡ isRepeat (windowOf w) counter }
+    ensures { result ≡ is_repeat (window_of w) counter }
 {
     if !w.begun {
         return false;
@@ -43,8 +43,8 @@ fn moved(marks: u64, by: u64) -> u64
 
 // The window after a counter that is no repeat is accepted.
 pub fn recorded(w: Window, counter: u64) -> Window
-    requires { isRepeat (windowOf w) counter ≡ false }
-    ensures { windowOf result ≡ recorded (windowOf w) counter }
+    requires { is_repeat (window_of w) counter ≡ false }
+    ensures { window_of result ≡ recorded (window_of w) counter }
 {
     if !w.begun {
         return Window {

@@ -3,20 +3,20 @@
 use Rattle.std.specs.Prelude.{◌≡◌, Bool, true, ◌&&◌, List, [], ◌∷◌, ◌++◌, ℕ, eqb, get_or, take, replicate}
 use Rattle.octets.specs.Numbers.{digits}
 use Rattle.answers.specs.Rows.{answer}
-use Rattle.receiver_rules.specs.Receiver.{Receiver, prefix_of, counterOf, receiverRows}
+use Rattle.receiver_rules.specs.Receiver.{Receiver, prefix_of, counter_of, receiver_rows}
 
 -- the number that a nonce begins with, and its counter
 pub record Parts : Type 0 where
   pub prefix-is : prefix_of (1 ∷ 2 ∷ 3 ∷ 4 ∷ 5 ∷ 6 ∷ 7 ∷ 8 ∷ 9 ∷ 10 ∷ 11 ∷ 12 ∷ []) ≡ 0x01020304
-  pub counter-is : counterOf (1 ∷ 2 ∷ 3 ∷ 4 ∷ 5 ∷ 6 ∷ 7 ∷ 8 ∷ 9 ∷ 10 ∷ 11 ∷ 12 ∷ []) ≡ 0x05060708090a0b0c
+  pub counter_is : counter_of (1 ∷ 2 ∷ 3 ∷ 4 ∷ 5 ∷ 6 ∷ 7 ∷ 8 ∷ 9 ∷ 10 ∷ 11 ∷ 12 ∷ []) ≡ 0x05060708090a0b0c
 
 -- a receiver of a set and the prefix 0x01020304 that has accepted 1000 alone
 abbrev at : ℕ → Receiver
 at set = record { set = set; key = replicate 32 0; prefix = 0x01020304; window = record { begun = true; highest = 1000; marks = 1 } }
 
 -- so many bytes of a nonce of a prefix and a counter
-abbrev nonceOf : ℕ → ℕ → ℕ → List ℕ
-nonceOf n prefix counter = take n (digits 4 prefix ++ (digits 8 counter ++ (0 ∷ [])))
+abbrev nonce_of : ℕ → ℕ → ℕ → List ℕ
+nonce_of n prefix counter = take n (digits 4 prefix ++ (digits 8 counter ++ (0 ∷ [])))
 
 -- where a message seals to it: the answer, then set, the nonce's length, prefix and counter, data, ciphertext and room
 abbrev pub openings : List (List ℕ)
@@ -40,8 +40,8 @@ openings =
     ∷ []
 
 -- and where none does
-abbrev pub falseOnes : List (List ℕ)
-falseOnes =
+abbrev pub false_ones : List (List ℕ)
+false_ones =
     (8 ∷ 1 ∷ 12 ∷ 0x01020304 ∷ 1001 ∷ 0 ∷ 4 ∷ 0 ∷ [])
     ∷ (1 ∷ 0 ∷ 11 ∷ 0x04030201 ∷ 1000 ∷ 4097 ∷ 65541 ∷ 0 ∷ [])
     ∷ (3 ∷ 1 ∷ 11 ∷ 0x04030201 ∷ 1000 ∷ 4097 ∷ 65541 ∷ 0 ∷ [])
@@ -53,9 +53,9 @@ falseOnes =
     ∷ (15 ∷ 1 ∷ 12 ∷ 0x01020304 ∷ 1000 ∷ 4096 ∷ 65540 ∷ 65536 ∷ [])
     ∷ []
 
-unfoldable pub opensSo : Bool → List (List ℕ) → Bool
-opensSo no-message [] = true
-opensSo no-message (c ∷ cs) =
-    let N = nonceOf (get_or c 2 0) (get_or c 3 0) (get_or c 4 0) in
-    eqb (answer (receiverRows (at (get_or c 1 0)) N (get_or c 5 0) (get_or c 6 0) (get_or c 7 0) no-message)) (get_or c 0 0)
-    && opensSo no-message cs
+unfoldable pub opens_so : Bool → List (List ℕ) → Bool
+opens_so no-message [] = true
+opens_so no-message (c ∷ cs) =
+    let N = nonce_of (get_or c 2 0) (get_or c 3 0) (get_or c 4 0) in
+    eqb (answer (receiver_rows (at (get_or c 1 0)) N (get_or c 5 0) (get_or c 6 0) (get_or c 7 0) no-message)) (get_or c 0 0)
+    && opens_so no-message cs

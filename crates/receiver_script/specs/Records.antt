@@ -3,15 +3,15 @@
 -- Assumes nothing.
 use Rattle.std.specs.Prelude.{List, ℕ, ◌+◌, min, get_or}
 use Rattle.script.specs.Records.{four, eight, flag, part}
-use Rattle.receiver_rules.specs.Receiver.{Receiver, madeReceiver}
+use Rattle.receiver_rules.specs.Receiver.{Receiver, made_receiver}
 
 -- make
-abbrev pub madeBy : List ℕ → Receiver
-madeBy r = madeReceiver (four r 1) (part r 10 (10 + min (get_or r 9 0) 54)) (four r 5)
+abbrev pub made_by : List ℕ → Receiver
+made_by r = made_receiver (four r 1) (part r 10 (10 + min (get_or r 9 0) 54)) (four r 5)
 
 -- put
-abbrev pub putBy : List ℕ → Receiver
-putBy r =
+abbrev pub put_by : List ℕ → Receiver
+put_by r =
     record {
       set = four r 1;
       key = part r 5 37;

@@ -21,7 +21,7 @@ mod lines;
 ghost use Rattle.std.specs.Prelude.{◌≡◌};
 ghost use Rattle.script.specs.Records.{eight};
 ghost use Rattle.receiver.specs.Values.{value_of};
-ghost use Rattle.receiver_script.specs.Records.{madeBy, putBy};
+ghost use Rattle.receiver_script.specs.Records.{made_by, put_by};
 
 use crate::lines::{print_call, print_receiver};
 use libc::STDIN_FILENO;
@@ -29,7 +29,7 @@ use receiver::{Outcome, Receiver, Window};
 use script::{fill, key_of, least, length, long_number, number, print_number, print_output};
 
 fn made(r: [u8; 64]) -> Receiver
-    ensures { value_of result ≡ madeBy r }
+    ensures { value_of result ≡ made_by r }
 {
     let end = 10 + least(r[9] as usize, 54);
     let set = number(r[1], r[2], r[3], r[4]);
@@ -61,7 +61,7 @@ fn marks_of(r: [u8; 64]) -> u64
 }
 
 fn hand_made(r: [u8; 64]) -> Receiver
-    ensures { value_of result ≡ putBy r }
+    ensures { value_of result ≡ put_by r }
 {
     Receiver {
         set: number(r[1], r[2], r[3], r[4]),
@@ -76,7 +76,7 @@ fn hand_made(r: [u8; 64]) -> Receiver
 }
 
 fn put(r: [u8; 64]) -> Receiver
-    ensures { value_of result ≡ putBy r }
+    ensures { value_of result ≡ put_by r }
 {
     let v = hand_made(r);
     print_call(1);

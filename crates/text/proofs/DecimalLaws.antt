@@ -14,73 +14,73 @@ use lib.ListN.{length, take, drop, get_or, length-append, drop_of_length-le}
 use lib.Seq.{drop-cons, drop_at, drop-append-le, take-length}
 use Rattle.text.proofs.NumeralLaws.{both, digit}
 use Rattle.text.specs.Writing.{Puts}
-use Rattle.text.specs.Numerals.{decimalOf, isDigit, allDigits, isSetNumber, decimalValue}
-use Rattle.octets.proofs.Tests.{le-or-lt}
+use Rattle.text.specs.Numerals.{decimal_of, is_digit, all_digits, is_set_number, decimal_value}
+use Rattle.octets.proofs.Tests.{le_or_lt}
 
 -- ---- digits
 
-pub digit_low : (c : ℕ) → c < 48 → isDigit c ≡ false
-unfolding isDigit
+pub digit_low : (c : ℕ) → c < 48 → is_digit c ≡ false
+unfolding is_digit
 digit_low c h = rw (lt-leb 48 c h)
 
-pub digit-above : (c : ℕ) → 48 ≤ c → isDigit c ≡ leb c 57
-unfolding isDigit
+pub digit-above : (c : ℕ) → 48 ≤ c → is_digit c ≡ leb c 57
+unfolding is_digit
 digit-above c h = rw (le-leb 48 c h)
 
-digit_at : (w : List ℕ) (i : ℕ) → allDigits w ≡ true → i < length w → isDigit (get_or w i 0) ≡ true
-unfolding allDigits
+digit_at : (w : List ℕ) (i : ℕ) → all_digits w ≡ true → i < length w → is_digit (get_or w i 0) ≡ true
+unfolding all_digits
 digit_at [] i h l = absurd (not-suc-le-zero l)
-digit_at (x ∷ w) zero h l = (both (isDigit x) (allDigits w) h).0
-digit_at (x ∷ w) (suc i) h l = digit_at w i (both (isDigit x) (allDigits w) h).1 (le_of_suc-le-suc l)
+digit_at (x ∷ w) zero h l = (both (is_digit x) (all_digits w) h).0
+digit_at (x ∷ w) (suc i) h l = digit_at w i (both (is_digit x) (all_digits w) h).1 (le_of_suc-le-suc l)
 
 -- After i turns: the first i bytes are digits.
 pub record Passed (w : List ℕ) (i : ℕ) : Type 0 where
   pub within : i ≤ length w
-  pub rest : allDigits w ≡ allDigits (drop i w)
+  pub rest : all_digits w ≡ all_digits (drop i w)
 
 pub passed_none : (w : List ℕ) → Passed w 0
 passed_none w = record { within = omega arith; rest = refl }
 
-one_more : (w : List ℕ) (i : ℕ) → i < length w → allDigits (drop i w) ≡ isDigit (get_or w i 0) && allDigits (drop (i + 1) w)
-unfolding allDigits
+one_more : (w : List ℕ) (i : ℕ) → i < length w → all_digits (drop i w) ≡ is_digit (get_or w i 0) && all_digits (drop (i + 1) w)
+unfolding all_digits
 one_more w i h = rw (drop-cons w i 0, add-one)
 
-pub passed-turn : {w : List ℕ} {i : ℕ} → Passed w i → i < length w → isDigit (get_or w i 0) ≡ true → Passed w (i + 1)
+pub passed-turn : {w : List ℕ} {i : ℕ} → Passed w i → i < length w → is_digit (get_or w i 0) ≡ true → Passed w (i + 1)
 passed-turn {w} {i} v h e =
     record {
       within = omega arith;
-      rest = v.rest ∙ one_more w i h ∙ ap (λ (p : Bool). p && allDigits (drop (i + 1) w)) e;
+      rest = v.rest ∙ one_more w i h ∙ ap (λ (p : Bool). p && all_digits (drop (i + 1) w)) e;
     }
 
-pub passed-not : {w : List ℕ} {i : ℕ} → Passed w i → i < length w → isDigit (get_or w i 0) ≡ false → false ≡ allDigits w
-passed-not {w} {i} v h e = sym (v.rest ∙ one_more w i h ∙ ap (λ (p : Bool). p && allDigits (drop (i + 1) w)) e)
+pub passed-not : {w : List ℕ} {i : ℕ} → Passed w i → i < length w → is_digit (get_or w i 0) ≡ false → false ≡ all_digits w
+passed-not {w} {i} v h e = sym (v.rest ∙ one_more w i h ∙ ap (λ (p : Bool). p && all_digits (drop (i + 1) w)) e)
 
-pub passed-all : {w : List ℕ} {i : ℕ} → Passed w i → length w ≤ i → true ≡ allDigits w
-unfolding allDigits
-passed-all {w} {i} v h = sym (v.rest ∙ ap allDigits (drop_of_length-le w {i = i} h))
+pub passed-all : {w : List ℕ} {i : ℕ} → Passed w i → length w ≤ i → true ≡ all_digits w
+unfolding all_digits
+passed-all {w} {i} v h = sym (v.rest ∙ ap all_digits (drop_of_length-le w {i = i} h))
 
 -- ---- the number of a set
 
-pub set-none : (w : List ℕ) → length w ≡ 0 → false ≡ isSetNumber w
-unfolding isSetNumber
+pub set-none : (w : List ℕ) → length w ≡ 0 → false ≡ is_set_number w
+unfolding is_set_number
 set-none [] h = refl
 set-none (c ∷ s) h = absurd (omega arith)
 
-pub set_long : (w : List ℕ) → 3 < length w → false ≡ isSetNumber w
-unfolding isSetNumber
+pub set_long : (w : List ℕ) → 3 < length w → false ≡ is_set_number w
+unfolding is_set_number
 set_long [] h = refl
 set_long (c ∷ s) h = rw (le-ltb (length s) 3 (omega arith), and-false)
 
-pub set-zero : (w : List ℕ) → 1 < length w → get_or w 0 0 ≡ 48 → false ≡ isSetNumber w
-unfolding isSetNumber
+pub set-zero : (w : List ℕ) → 1 < length w → get_or w 0 0 ≡ 48 → false ≡ is_set_number w
+unfolding is_set_number
 set-zero [] h e = refl
 set-zero (c ∷ s) h e = rw (ne_eqb (length s) 0 (λ z. omega arith), eq-eqb c 48 e, and-false)
 
-pub set-digits : (w : List ℕ) → 0 < length w → length w ≤ 3 → (length w ≤ 1) ⊎ (get_or w 0 0 ≡ 48 → ⊥) → allDigits w ≡ isSetNumber w
-unfolding isSetNumber allDigits
+pub set-digits : (w : List ℕ) → 0 < length w → length w ≤ 3 → (length w ≤ 1) ⊎ (get_or w 0 0 ≡ 48 → ⊥) → all_digits w ≡ is_set_number w
+unfolding is_set_number all_digits
 set-digits [] p h k = absurd (not-suc-le-zero p)
 set-digits (c ∷ s) p h k =
-    sym (ap₂ (λ (a b : Bool). isDigit c && allDigits s && a && b) (lt-ltb (length s) 3 h) plain ∙ and-true _ ∙ and-true _)
+    sym (ap₂ (λ (a b : Bool). is_digit c && all_digits s && a && b) (lt-ltb (length s) 3 h) plain ∙ and-true _ ∙ and-true _)
   where
     plain : (eqb (length s) 0 || not (eqb c 48)) ≡ true
     plain =
@@ -89,23 +89,23 @@ set-digits (c ∷ s) p h k =
         (λ (n : c ≡ 48 → ⊥). rw (ne_eqb c 48 n) (or-true (eqb (length s) 0)))
         k
 
-pub set_is : (w : List ℕ) → isSetNumber w ≡ true → (allDigits w ≡ true) × (length w ≤ 3)
-unfolding isSetNumber allDigits
+pub set_is : (w : List ℕ) → is_set_number w ≡ true → (all_digits w ≡ true) × (length w ≤ 3)
+unfolding is_set_number all_digits
 set_is [] h = absurd (false≢true h)
 set_is (c ∷ s) h =
-    let p = both (isDigit c && allDigits s && ltb (length s) 3) (eqb (length s) 0 || not (eqb c 48)) h in
-    let q = both (isDigit c && allDigits s) (ltb (length s) 3) p.0 in
+    let p = both (is_digit c && all_digits s && ltb (length s) 3) (eqb (length s) 0 || not (eqb c 48)) h in
+    let q = both (is_digit c && all_digits s) (ltb (length s) 3) p.0 in
     (q.0, ltb-true (length s) 3 q.1)
 
 -- a byte of it
-pub set-digit : (w : List ℕ) (i : ℕ) → isSetNumber w ≡ true → i < length w → (48 ≤ get_or w i 0) × (get_or w i 0 ≤ 57)
+pub set-digit : (w : List ℕ) (i : ℕ) → is_set_number w ≡ true → i < length w → (48 ≤ get_or w i 0) × (get_or w i 0 ≤ 57)
 set-digit w i h l = let d = digit (get_or w i 0) (digit_at w i (set_is w h).0 l) in (d.low, d.high)
 
 -- After i turns: n is the number of the first i digits.
 pub record Read (w : List ℕ) (n i : ℕ) : Type 0 where
   pub within : i ≤ length w
   pub small : n < 10 ^ i
-  pub so_far : decimalValue 0 w ≡ decimalValue n (drop i w)
+  pub so_far : decimal_value 0 w ≡ decimal_value n (drop i w)
 
 pub read_none : (w : List ℕ) → Read w 0 0
 read_none w = record { within = omega arith; small = omega arith; so_far = refl }
@@ -118,11 +118,11 @@ hundred (suc (suc zero)) h = omega arith
 hundred (suc (suc (suc i))) h = absurd (omega arith)
 
 -- there is room for one digit more
-pub read-room : {w : List ℕ} {n i : ℕ} → Read w n i → isSetNumber w ≡ true → i < length w → n < 100
+pub read-room : {w : List ℕ} {n i : ℕ} → Read w n i → is_set_number w ≡ true → i < length w → n < 100
 read-room {w} {n} {i} v h l = let s = (set_is w h).1 in omega (arith, hundred i (omega arith), v.small)
 
-pub read-turn : {w : List ℕ} {n i : ℕ} → Read w n i → isSetNumber w ≡ true → i < length w → Read w (n * 10 + (get_or w i 0 - 48)) (i + 1)
-unfolding decimalValue
+pub read-turn : {w : List ℕ} {n i : ℕ} → Read w n i → is_set_number w ≡ true → i < length w → Read w (n * 10 + (get_or w i 0 - 48)) (i + 1)
+unfolding decimal_value
 read-turn {w} {n} {i} v h l =
     let d = set-digit w i h l in
     record {
@@ -131,56 +131,56 @@ read-turn {w} {n} {i} v h l =
       so_far = v.so_far ∙ rw (drop-cons w i 0, add-one);
     }
 
-pub read_all : {w : List ℕ} {n i : ℕ} → Read w n i → length w ≤ i → n ≡ decimalValue 0 w
-unfolding decimalValue
-read_all {w} {n} {i} v h = sym (v.so_far ∙ ap (decimalValue n) (drop_of_length-le w {i = i} h))
+pub read_all : {w : List ℕ} {n i : ℕ} → Read w n i → length w ≤ i → n ≡ decimal_value 0 w
+unfolding decimal_value
+read_all {w} {n} {i} v h = sym (v.so_far ∙ ap (decimal_value n) (drop_of_length-le w {i = i} h))
 
 -- ---- a number's digits
 
 -- how many there are
-pub size-one : (k n : ℕ) → n < 10 → length (decimalOf (suc k) n) ≡ 1
-unfolding decimalOf
+pub size-one : (k n : ℕ) → n < 10 → length (decimal_of (suc k) n) ≡ 1
+unfolding decimal_of
 size-one k n h = rw (lt-ltb n 10 h)
 
-pub size-more : (k n : ℕ) → 10 ≤ n → length (decimalOf (suc k) n) ≡ length (decimalOf k (n / 10)) + 1
-unfolding decimalOf
-size-more k n h = rw (le-ltb n 10 h) (length-append (decimalOf k (n / 10)) _)
+pub size-more : (k n : ℕ) → 10 ≤ n → length (decimal_of (suc k) n) ≡ length (decimal_of k (n / 10)) + 1
+unfolding decimal_of
+size-more k n h = rw (le-ltb n 10 h) (length-append (decimal_of k (n / 10)) _)
 
 -- the last k digits, zeros before the number among them
-unfoldable pub digitsOf : ℕ → ℕ → List ℕ
-digitsOf zero n = []
-digitsOf (suc k) n = digitsOf k (n / 10) ++ ((48 + n % 10) ∷ [])
+unfoldable pub digits_of : ℕ → ℕ → List ℕ
+digits_of zero n = []
+digits_of (suc k) n = digits_of k (n / 10) ++ ((48 + n % 10) ∷ [])
 
-length_digits : (k n : ℕ) → length (digitsOf k n) ≡ k
-unfolding digitsOf
+length_digits : (k n : ℕ) → length (digits_of k n) ≡ k
+unfolding digits_of
 length_digits zero n = refl
-length_digits (suc k) n = length-append (digitsOf k (n / 10)) _ ∙ omega (arith, length_digits k (n / 10))
+length_digits (suc k) n = length-append (digits_of k (n / 10)) _ ∙ omega (arith, length_digits k (n / 10))
 
 -- without the first i, where the others are as many as the number has
-without : (k n i : ℕ) → i + length (decimalOf k n) ≡ k → drop i (digitsOf k n) ≡ decimalOf k n
-unfolding decimalOf digitsOf
+without : (k n i : ℕ) → i + length (decimal_of k n) ≡ k → drop i (digits_of k n) ≡ decimal_of k n
+unfolding decimal_of digits_of
 without zero n i e = ap (λ (j : ℕ). drop j []) {x = i} {y = 0} (omega (arith, e))
-without (suc k) n i e = ⊎_elim (more (without k (n / 10) i)) one (le-or-lt 10 n)
+without (suc k) n i e = ⊎_elim (more (without k (n / 10) i)) one (le_or_lt 10 n)
   where
-    d : length (digitsOf k (n / 10)) ≡ k
+    d : length (digits_of k (n / 10)) ≡ k
     d = length_digits k (n / 10)
 
-    one : n < 10 → drop i (digitsOf (suc k) n) ≡ decimalOf (suc k) n
+    one : n < 10 → drop i (digits_of (suc k) n) ≡ decimal_of (suc k) n
     one h =
-        drop_at (digitsOf k (n / 10)) _ i (omega (arith, d, e, size-one k n h))
+        drop_at (digits_of k (n / 10)) _ i (omega (arith, d, e, size-one k n h))
         ∙ rw (lt-ltb n 10 h) (ap (λ (a : ℕ). a ∷ []) {x = 48 + n % 10} {y = 48 + n} (omega arith))
 
-    more : (i + length (decimalOf k (n / 10)) ≡ k → drop i (digitsOf k (n / 10)) ≡ decimalOf k (n / 10)) → 10 ≤ n →
-        drop i (digitsOf (suc k) n) ≡ decimalOf (suc k) n
+    more : (i + length (decimal_of k (n / 10)) ≡ k → drop i (digits_of k (n / 10)) ≡ decimal_of k (n / 10)) → 10 ≤ n →
+        drop i (digits_of (suc k) n) ≡ decimal_of (suc k) n
     more before h =
-        let l : i + length (decimalOf k (n / 10)) ≡ k = omega (arith, e, size-more k n h) in
-        drop-append-le i (digitsOf k (n / 10)) _ (omega (arith, d, l))
+        let l : i + length (decimal_of k (n / 10)) ≡ k = omega (arith, e, size-more k n h) in
+        drop-append-le i (digits_of k (n / 10)) _ (omega (arith, d, l))
         ∙ rw (le-ltb n 10 h) (ap (λ (s : List ℕ). s ++ ((48 + n % 10) ∷ [])) (before l))
 
-pub put-without : (k n i : ℕ) (out last : List ℕ) → i + length (decimalOf k n) ≡ k →
-    last ≡ take (k - i) (drop i (digitsOf k n)) ++ drop (length (take (k - i) (drop i (digitsOf k n)))) out →
-    Puts (decimalOf k n) (k - i) out last
-put-without k n i out last e p =
-    let l : k - i ≡ length (decimalOf k n) = omega (arith, e) in
-    let d : take (k - i) (drop i (digitsOf k n)) ≡ decimalOf k n = rw (without k n i e, l) (take-length (decimalOf k n)) in
-    (l, p ∙ ap (λ (s : List ℕ). s ++ drop (length s) out) d ∙ ap (λ (j : ℕ). decimalOf k n ++ drop j out) (sym l))
+pub put_without : (k n i : ℕ) (out last : List ℕ) → i + length (decimal_of k n) ≡ k →
+    last ≡ take (k - i) (drop i (digits_of k n)) ++ drop (length (take (k - i) (drop i (digits_of k n)))) out →
+    Puts (decimal_of k n) (k - i) out last
+put_without k n i out last e p =
+    let l : k - i ≡ length (decimal_of k n) = omega (arith, e) in
+    let d : take (k - i) (drop i (digits_of k n)) ≡ decimal_of k n = rw (without k n i e, l) (take-length (decimal_of k n)) in
+    (l, p ∙ ap (λ (s : List ℕ). s ++ drop (length s) out) d ∙ ap (λ (j : ℕ). decimal_of k n ++ drop j out) (sym l))

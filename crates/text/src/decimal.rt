@@ -1,6 +1,6 @@
 // Numbers in decimal without leading zeros.
 ghost use Rattle.std.specs.Prelude.{◌≡◌, true, ◌+◌, ◌≤◌, ◌<◌, length};
-ghost use Rattle.text.specs.Numerals.{decimal, isDigit, allDigits, isSetNumber, decimalValue};
+ghost use Rattle.text.specs.Numerals.{decimal, is_digit, all_digits, is_set_number, decimal_value};
 ghost use Rattle.text.specs.Writing.{Puts};
 
 // A number below 100,000 over the first bytes of out, and how many bytes it has.
@@ -45,7 +45,7 @@ fn leading(n: u32) -> usize
 }
 
 fn is_digit(c: u8) -> bool
-    ensures { result ≡ isDigit c }
+    ensures { result ≡ is_digit c }
 {
     if c < 48 {
         return false;
@@ -55,7 +55,7 @@ fn is_digit(c: u8) -> bool
 
 // 1 to 3 digits without a leading zero, `0` allowed.
 pub fn is_set_number(w: &[u8]) -> bool
-    ensures { result ≡ isSetNumber w.now }
+    ensures { result ≡ is_set_number w.now }
 {
     if w.len() == 0 {
         return false;
@@ -72,7 +72,7 @@ pub fn is_set_number(w: &[u8]) -> bool
 }
 
 fn all_digits(w: &[u8]) -> bool
-    ensures { result ≡ allDigits w.now }
+    ensures { result ≡ all_digits w.now }
 {
     let mut i = 0;
     while i < w.len() {
@@ -86,8 +86,8 @@ fn all_digits(w: &[u8]) -> bool
 
 // The number that at most 3 digits stand for.
 pub fn set_number(w: &[u8]) -> u32
-    requires { isSetNumber w.now ≡ true }
-    ensures { result ≡ decimalValue 0 w.now }
+    requires { is_set_number w.now ≡ true }
+    ensures { result ≡ decimal_value 0 w.now }
 {
     let mut n = 0u32;
     let mut i = 0;

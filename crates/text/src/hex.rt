@@ -1,12 +1,12 @@
 // Strings as pairs of lower-case hex digits, `-` for the empty one.
 ghost use Rattle.std.specs.Prelude.{◌≡◌, true, ◌++◌, ◌+◌, ◌*◌, ◌/◌, ◌≤◌, ◌<◌, length, drop};
-ghost use Rattle.text.specs.Numerals.{hexDigit, hex, shown, isHexDigit, hexValue, areHexPairs, unhex, is_value, value_of};
+ghost use Rattle.text.specs.Numerals.{hex_digit, hex, shown, is_hex_digit, hex_value, are_hex_pairs, unhex, is_value, value_of};
 ghost use Rattle.text.specs.Writing.{Puts};
 
 // A digit of a number below 16.
 fn hex_digit(v: u8) -> u8
     requires { v < 16 }
-    ensures { result ≡ hexDigit v }
+    ensures { result ≡ hex_digit v }
 {
     if v < 10 {
         return 48 + v;
@@ -41,7 +41,7 @@ pub fn put_shown(s: &[u8], out: &mut [u8]) -> usize
 }
 
 fn is_hex_digit(c: u8) -> bool
-    ensures { result ≡ isHexDigit c }
+    ensures { result ≡ is_hex_digit c }
 {
     if c < 48 {
         return false;
@@ -57,8 +57,8 @@ fn is_hex_digit(c: u8) -> bool
 
 // What a hex digit stands for.
 fn hex_value(c: u8) -> u8
-    requires { isHexDigit c ≡ true }
-    ensures { (result ≡ hexValue c) × (result < 16) }
+    requires { is_hex_digit c ≡ true }
+    ensures { (result ≡ hex_value c) × (result < 16) }
 {
     if c <= 57 {
         return c - 48;
@@ -67,7 +67,7 @@ fn hex_value(c: u8) -> u8
 }
 
 fn are_hex_pairs(w: &[u8]) -> bool
-    ensures { result ≡ areHexPairs w.now }
+    ensures { result ≡ are_hex_pairs w.now }
 {
     let mut i = 0;
     while i < w.len() / 2 {
@@ -96,7 +96,7 @@ pub fn is_value(w: &[u8]) -> bool
 
 // The bytes of pairs of digits over the first bytes of out.
 fn read_hex(w: &[u8], out: &mut [u8])
-    requires w_value { areHexPairs w.now ≡ true }
+    requires w_value { are_hex_pairs w.now ≡ true }
     requires w_in_bounds { length w.now / 2 ≤ length out.old }
     ensures { out.new ≡ unhex w.now ++ drop (length w.now / 2) out.old }
 {

@@ -10,7 +10,7 @@ use borrow.Author.Tests.{eq-eqb, ne_eqb, eqb-true, eqb-false}
 use lib.Bits.{bit_or, or_zero_l, or_shr, or_mod, shifted_even}
 use lib.Dec.{eqb}
 use lib.Pow.{pow-add, pow-lt, shl-shr, shr-shr, field, mod-mod-pow}
-use Rattle.octets.proofs.Tests.{le-or-lt}
+use Rattle.octets.proofs.Tests.{le_or_lt}
 use Rattle.window_rules.specs.Window.{bit}
 
 -- two comparisons that say the same
@@ -58,7 +58,7 @@ bit-one zero = refl
 bit-one (suc k) = rw (div-eq_of_lt (pow-lt {i = 0} {j = suc k} (omega arith))) (sym (ne_eqb (suc k) 0 (λ e. omega arith)))
 
 pub bit-power : (i j : ℕ) → bit (2 ^ j) i ≡ eqb i j
-bit-power i j = ap (λ (n : ℕ). bit n i) (sym (one-mul (2 ^ j))) ∙ ⊎_elim far near (le-or-lt j i)
+bit-power i j = ap (λ (n : ℕ). bit n i) (sym (one-mul (2 ^ j))) ∙ ⊎_elim far near (le_or_lt j i)
   where
     far : j ≤ i → bit (1 * 2 ^ j) i ≡ eqb i j
     far h = subst (λ (k : ℕ). bit (1 * 2 ^ j) k ≡ eqb (i - j) 0) {x = j + (i - j)} {y = i} (omega arith) (bit-above 1 j (i - j) ∙ bit-one (i - j)) ∙ same_test (i - j) 0 i j (λ e. omega arith) (λ e. omega arith)

@@ -1,7 +1,7 @@
 -- Example windows: which counters are repeats, and what recording one leaves.
 -- Assumes nothing.
 use Rattle.std.specs.Prelude.{Bool, true, false, cond, ◌&&◌, List, [], ◌∷◌, ℕ, ◌+◌, ◌-◌, ◌^◌, eqb, get_or}
-use Rattle.window_rules.specs.Window.{Window, isRepeat, recorded}
+use Rattle.window_rules.specs.Window.{Window, is_repeat, recorded}
 
 abbrev at : Bool → ℕ → ℕ → Window
 at begun highest marks = record { begun = begun; highest = highest; marks = marks }
@@ -35,9 +35,9 @@ repeats =
     ∷ (0 ∷ (greatest - 1) ∷ 1 ∷ greatest ∷ [])
     ∷ []
 
-unfoldable pub repeatsSo : List (List ℕ) → Bool
-repeatsSo [] = true
-repeatsSo (c ∷ cs) = said (isRepeat (at true (get_or c 1 0) (get_or c 2 0)) (get_or c 3 0)) (get_or c 0 0) && repeatsSo cs
+unfoldable pub repeats_so : List (List ℕ) → Bool
+repeats_so [] = true
+repeats_so (c ∷ cs) = said (is_repeat (at true (get_or c 1 0) (get_or c 2 0)) (get_or c 3 0)) (get_or c 0 0) && repeats_so cs
 
 -- on windows that have begun: highest and marks after the call, then those before it and the counter
 abbrev pub recordings : List (List ℕ)
@@ -53,19 +53,19 @@ recordings =
     ∷ (100 ∷ 7 ∷ 100 ∷ 5 ∷ 99 ∷ [])
     ∷ []
 
-unfoldable pub recordsSo : List (List ℕ) → Bool
-recordsSo [] = true
-recordsSo (c ∷ cs) =
+unfoldable pub records_so : List (List ℕ) → Bool
+records_so [] = true
+records_so (c ∷ cs) =
     let w = recorded (at true (get_or c 2 0) (get_or c 3 0)) (get_or c 4 0) in
-    eqb w.highest (get_or c 0 0) && eqb w.marks (get_or c 1 0) && said w.begun 1 && recordsSo cs
+    eqb w.highest (get_or c 0 0) && eqb w.marks (get_or c 1 0) && said w.begun 1 && records_so cs
 
 -- where none was accepted, whatever the fields hold: highest, marks and counter; none is a repeat, and recording it leaves it alone
 abbrev pub firsts : List (List ℕ)
 firsts = (0 ∷ 0 ∷ 0 ∷ []) ∷ (100 ∷ greatest ∷ 100 ∷ []) ∷ (100 ∷ 1 ∷ 7 ∷ []) ∷ (0 ∷ 0 ∷ greatest ∷ []) ∷ []
 
-unfoldable pub firstsSo : List (List ℕ) → Bool
-firstsSo [] = true
-firstsSo (c ∷ cs) =
+unfoldable pub firsts_so : List (List ℕ) → Bool
+firsts_so [] = true
+firsts_so (c ∷ cs) =
     let w = at false (get_or c 0 0) (get_or c 1 0) in
     let k = get_or c 2 0 in
-    said (isRepeat w k) 0 && said (recorded w k).begun 1 && eqb (recorded w k).highest k && eqb (recorded w k).marks 1 && firstsSo cs
+    said (is_repeat w k) 0 && said (recorded w k).begun 1 && eqb (recorded w k).highest k && eqb (recorded w k).marks 1 && firsts_so cs

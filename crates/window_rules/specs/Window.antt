@@ -18,8 +18,8 @@ abbrev pub behind : Window → ℕ → ℕ
 behind w c = w.highest - c
 
 -- a counter that is not above the highest: 64 or more below it, or one of the 64 ending there that was accepted
-unfoldable pub isRepeat : Window → ℕ → Bool
-isRepeat w c = w.begun && (leb c w.highest && (leb 64 (behind w c) || bit w.marks (behind w c)))
+unfoldable pub is_repeat : Window → ℕ → Bool
+is_repeat w c = w.begun && (leb c w.highest && (leb 64 (behind w c) || bit w.marks (behind w c)))
 
 -- ---- the window after a counter is recorded
 
@@ -39,6 +39,6 @@ unfoldable pub recorded : Window → ℕ → Window
 recorded w c = cond w.begun (cond (ltb w.highest c) (moved w c) (marked w c)) (first c)
 
 -- after each of a list
-unfoldable pub recordedAll : Window → List ℕ → Window
-recordedAll w [] = w
-recordedAll w (c ∷ cs) = recordedAll (recorded w c) cs
+unfoldable pub recorded_all : Window → List ℕ → Window
+recorded_all w [] = w
+recorded_all w (c ∷ cs) = recorded_all (recorded w c) cs

@@ -5,7 +5,7 @@ use mathlib.Core.Bool.{true}
 use borrow.Author.Rules.{rules}
 use Rattle.fips197.specs.Schedule.{is_key}
 use Rattle.fips197.specs.Cipher.{cipher}
-use Rattle.aes.proofs.ContextLaws.{answer-good, answer-bad, answered-good, answered-bad}
+use Rattle.aes.proofs.ContextLaws.{answer-good, answer_bad, answered-good, answered_bad}
 use Rattle.aes.proofs.aes_encrypt.Statement.{statement}
 use Rattle.aes.proofs.aes_encrypt.Tie as tie
 
@@ -20,7 +20,7 @@ returns c =
 returns-2 : tie.Need-returns-2
 returns-2 c =
     let h = sym c.before.is-key.ensures ∙ c.if1.false in
-    (answer-bad _ h, sym (answered-bad cipher _ _ h))
+    (answer_bad _ h, sym (answered_bad cipher _ _ h))
 
 pub aes-encrypt-spec : {M : Type 1} → statement M
 aes-encrypt-spec = tie.close (tie.spec (λ c κs. search rules) (λ c κs. search rules) (λ c. search rules) (λ c κs. (good c.before.before, c.before.blank.ensures)) (λ c κs. search rules) returns returns-2)

@@ -2,7 +2,7 @@
 -- Assumes nothing.
 use mathlib.Core.Path.{◌∙◌}
 use borrow.Author.Rules.{rules}
-use Rattle.hub.proofs.Laws.{not-false, Reading, read_none, read-on}
+use Rattle.hub.proofs.Laws.{not-false, Reading, read_none, read_on}
 use Rattle.hub.proofs.read_all.Statement.{statement}
 use Rattle.hub.proofs.read_all.Tie as tie
 
@@ -16,7 +16,7 @@ loop-holds : tie.Need-loop-init invariant-loop decreases-loop
 loop-holds c = let at = c.before.before.before.before.before in read_none _ at.args.line.now _ c.before.begin.ensures at.requires.0.0 c.nothing.ensures
 
 returns : tie.Need-returns invariant-loop decreases-loop
-returns c = let v = c.before.before.before.before.before.before.before.before.before.before.before.before.before.before.loop.invariant in read-on v.reached v.good c.before.before.before.before.before.before.before.before.read_Some.ensures
+returns c = let v = c.before.before.before.before.before.before.before.before.before.before.before.before.before.before.loop.invariant in read_on v.reached v.good c.before.before.before.before.before.before.before.before.read_Some.ensures
 
 loop-again : tie.Need-loop-preserved invariant-loop decreases-loop
 loop-again c =
@@ -24,10 +24,10 @@ loop-again c =
     let v = c.before.before.before.before.before.before.before.before.before.before.before.before.before.before.loop.invariant in
     let m = r.ensures.goes_on (not-false r.result.more c.if1.false) in
     record {
-      reached = read-on v.reached v.good r.ensures;
+      reached = read_on v.reached v.good r.ensures;
       good = m.0;
       not-over = m.1;
-      same-input = r.auto.1.0 ∙ v.same-input;
+      same_input = r.auto.1.0 ∙ v.same_input;
       same_line = r.auto.1.1.0 ∙ v.same_line;
       same_out = r.auto.1.1.1.0 ∙ v.same_out;
     }

@@ -4,7 +4,7 @@ use mathlib.Core.Path.{refl}
 use Prim.Native.Nat.{◌-◌}
 use borrow.Author.Rules.{rules}
 use lib.ListN.{length}
-use Rattle.hub.proofs.Laws.{Saying, used-within, used-further, wrote-fits, said-none, said_more, said-short, said_all}
+use Rattle.hub.proofs.Laws.{Saying, used_within, used_further, wrote_fits, said-none, said_more, said-short, said_all}
 use Rattle.hub.proofs.say.Statement.{statement}
 use Rattle.hub.proofs.say.Tie as tie
 
@@ -18,16 +18,16 @@ loop-holds : tie.Need-loop-init invariant-loop decreases-loop
 loop-holds c = let at = c.before.before.before in said-none at.args.h _ _ _ at.requires.0.2 at.requires.0.1 at.requires.1
 
 add-used : tie.Need-overflow-add-used invariant-loop decreases-loop
-add-used c = let w = used-within _ _ c.before.before.before.before.before.before.before.before.before.before.before.loop.invariant c.before.before.before.before.before.before.before.before.before.before.loop-test.true c.before.before.before.before.before.before.feed.ensures in search (rules, w)
+add-used c = let w = used_within _ _ c.before.before.before.before.before.before.before.before.before.before.before.loop.invariant c.before.before.before.before.before.before.before.before.before.before.loop-test.true c.before.before.before.before.before.before.feed.ensures in search (rules, w)
 
 add-wrote : tie.Need-overflow-add-wrote invariant-loop decreases-loop
-add-wrote c = let w = wrote-fits _ _ c.before.before.before.before.before.before.before.before.before.before.before.before.before.loop.invariant c.before.before.before.before.before.before.before.before.before.before.before.before.loop-test.true c.before.before.before.before.before.before.before.before.feed.ensures c.write.ensures in search (rules, w)
+add-wrote c = let w = wrote_fits _ _ c.before.before.before.before.before.before.before.before.before.before.before.before.before.loop.invariant c.before.before.before.before.before.before.before.before.before.before.before.before.loop-test.true c.before.before.before.before.before.before.before.before.feed.ensures c.write.ensures in search (rules, w)
 
 returns : tie.Need-returns invariant-loop decreases-loop
 returns c = said-short _ _ c.before.before.before.before.before.before.before.before.before.before.before.before.before.before.before.loop.invariant c.before.before.before.before.before.before.before.before.before.before.before.before.before.before.loop-test.true c.before.before.before.before.before.before.before.before.before.before.feed.ensures c.if1.true
 
 loop-less : tie.Need-loop-smaller invariant-loop decreases-loop
-loop-less c = used-further _ _ c.before.before.before.before.before.before.before.before.before.before.before.before.before.before.before.loop.invariant c.before.before.before.before.before.before.before.before.before.before.before.before.before.before.loop-test.true c.before.before.before.before.before.before.before.before.before.before.feed.ensures
+loop-less c = used_further _ _ c.before.before.before.before.before.before.before.before.before.before.before.before.before.before.before.loop.invariant c.before.before.before.before.before.before.before.before.before.before.before.before.before.before.loop-test.true c.before.before.before.before.before.before.before.before.before.before.feed.ensures
 
 loop-again : tie.Need-loop-preserved invariant-loop decreases-loop
 loop-again c =

@@ -1,13 +1,13 @@
 -- `ledger_script::hand_made` meets its contract.
 -- Assumes nothing.
-use Rattle.ledger_script.proofs.RecordLaws.{put-so}
+use Rattle.ledger_script.proofs.RecordLaws.{put_so}
 use borrow.Author.Rules.{rules}
 use Rattle.ledger_script.proofs.hand_made.Statement.{statement}
 use Rattle.ledger_script.proofs.hand_made.Tie as tie
 
 returns : tie.Need-returns
 returns c =
-    put-so c.before.before.before.before.before.before.before.args.t1 c.before.before.before.before.number3.ensures c.before.before.before.key_of.ensures c.before.before.short-number.ensures c.before.long-number.ensures c.before.before.before.before.before.before.number.ensures c.before.before.before.before.before.number2.ensures c.last_of.ensures
+    put_so c.before.before.before.before.before.before.before.args.t1 c.before.before.before.before.number3.ensures c.before.before.before.key_of.ensures c.before.before.short-number.ensures c.before.long-number.ensures c.before.before.before.before.before.before.number.ensures c.before.before.before.before.before.number2.ensures c.last_of.ensures
 
 pub hand-made-spec : {M : Type 1} → statement M
 hand-made-spec =

@@ -1,6 +1,6 @@
 -- `ledger_script::hold` meets its contract.
 -- Assumes nothing.
-use Rattle.ledger_script.proofs.RecordLaws.{held-so}
+use Rattle.ledger_script.proofs.RecordLaws.{held_so}
 use mathlib.Core.Path.{refl}
 use borrow.Author.Rules.{rules}
 use Rattle.ledger_script.proofs.hold.Statement.{statement}
@@ -9,7 +9,7 @@ use Rattle.ledger_script.proofs.hold.Tie as tie
 returns : tie.Need-returns
 returns c =
     let a = c.before.before.before.before.before.args in
-    held-so a.l a.t2 _ c.before.before.before.before.least.ensures.2 refl c.before.before.before.sum_of.ensures
+    held_so a.l a.t2 _ c.before.before.before.before.least.ensures.2 refl c.before.before.before.sum_of.ensures
 
 pub hold-spec : {M : Type 1} → statement M
 hold-spec =

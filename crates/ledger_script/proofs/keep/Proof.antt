@@ -1,7 +1,7 @@
 -- `ledger_script::keep` meets its contract.
 -- Assumes nothing.
 use lib.ListN.{length}
-use Rattle.ledger_script.proofs.RecordLaws.{kept-so}
+use Rattle.ledger_script.proofs.RecordLaws.{kept_so}
 use borrow.Author.Rules.{rules}
 use Rattle.ledger_script.proofs.keep.Statement.{statement}
 use Rattle.ledger_script.proofs.keep.Tie as tie
@@ -9,7 +9,7 @@ use Rattle.ledger_script.proofs.keep.Tie as tie
 returns : tie.Need-returns
 returns c =
     let a = c.before.before.before.before.before.before.before.before.before.before.before.args in
-    kept-so a.t2 _ (length a.ad.now) c.before.before.before.keep.ensures.next-is c.before.before.before.before.before.number.ensures c.before.before.before.before.before.before.before.before.fill.ensures
+    kept_so a.t2 _ (length a.ad.now) c.before.before.before.keep.ensures.next-is c.before.before.before.before.before.number.ensures c.before.before.before.before.before.before.before.before.fill.ensures
 
 pub keep_spec : {M : Type 1} → statement M
 keep_spec =

@@ -99,8 +99,8 @@ result n l = record { answer = n; ledger = l }
 abbrev mach-result : Outcome → Val
 mach-result r = LL.val S.the_type S'.the_laws r
 
-result-is : (n : ℕ) (l : Ledger) → n < 2 ^ 32 → Is T.the_row l (mach l ∷ []) → Is S.the_row (result n l) (mach-result (result n l) ∷ [])
-result-is n l n-fits is = LL.owes S.the_type S'.the_laws (result n l) ((refl, n-fits), (is, tt))
+result_is : (n : ℕ) (l : Ledger) → n < 2 ^ 32 → Is T.the_row l (mach l ∷ []) → Is S.the_row (result n l) (mach-result (result n l) ∷ [])
+result_is n l n-fits is = LL.owes S.the_type S'.the_laws (result n l) ((refl, n-fits), (is, tt))
 
 -- a local that holds a ledger is what a `&mut` of it refers to, each way
 module _ {M : Type 1} {𝓤 : Ura M} (𝓛 : Logic 𝓤) (d : Ledger) (b : ℕ) where
@@ -219,12 +219,12 @@ module _ {M : Type 1} {𝓤 : Ura M} (𝓛 : Logic 𝓤) (at_mem : Memory → SP
         -- [what the ledger owns; _6; the slices' tokens; what the answer owns; the last list; true; _11; …; _7; …; what frees _6; _5; …; _0; …]
         assigns ! (of_opd ! (load ! (from ! (stop !)) (look ! 1 refl))) (from ! (stop !)) (init ! 6 refl ((LL.lawful T.the_type T'.the_laws 𝓛).typed zs.0 _ is').0) $
         assigns ! (agg ! (and_then ! (load ! (from ! (stop !)) (look ! 14 refl)) (and_then ! (load ! (from ! (stop !)) (look ! 6 refl)) (no_more !))))
-        (from ! (stop !)) (init ! 27 refl ((LL.lawful S.the_type S'.the_laws 𝓛).typed (result n zs.0) _ (result-is n zs.0 is.1 is')).0) $
+        (from ! (stop !)) (init ! 27 refl ((LL.lawful S.the_type S'.the_laws 𝓛).typed (result n zs.0) _ (result_is n zs.0 is.1 is')).0) $
         returns ! (look ! 27 refl) $
         forget ! 1 refl $ forget ! 6 refl $ forget ! 8 refl $ forget ! 10 refl $ forget ! 12 refl $ forget ! 14 refl $ forget ! 17 refl $ forget ! 19 refl $ forget ! 21 refl $ forget ! 23 refl $ forget ! 25 refl $ forget ! 27 refl $
         move ! (27 ∷ 28 ∷ []) $ free1 ! $ move ! (25 ∷ 26 ∷ []) $ free1 ! $ move ! (23 ∷ 24 ∷ []) $ free1 ! $ move ! (21 ∷ 22 ∷ []) $ free1 ! $ move ! (19 ∷ 20 ∷ []) $ free1 ! $ move ! (17 ∷ 18 ∷ []) $ free1 ! $
         move ! (1 ∷ 16 ∷ []) $ free1 ! $ move ! (13 ∷ 14 ∷ []) $ free1 ! $ move ! (11 ∷ 12 ∷ []) $ free1 ! $ move ! (9 ∷ 10 ∷ []) $ free1 ! $ move ! (7 ∷ 8 ∷ []) $ free1 ! $ move ! (5 ∷ 6 ∷ []) $ free1 ! $ free0 ! $
-        keep ! (1 ∷ 3 ∷ []) $ by ! (exits (result n zs.0) zs.1.1.1.1.0 (result-is n zs.0 is.1 is') e same))))))))))))))))))))))
+        keep ! (1 ∷ 3 ∷ []) $ by ! (exits (result n zs.0) zs.1.1.1.1.0 (result_is n zs.0 is.1 is') e same))))))))))))))))))))))
 
 module _ {M : Type 1} {𝓤 : Ura M} (𝓛 : Logic 𝓤) (at_mem : Memory → SProp 𝓤) (run : Routine → Fun 𝓤) where
   open 𝓛 use {H}

@@ -4,7 +4,7 @@ use mathlib.Core.Path.{refl, ◌∙◌}
 use Prim.Native.Nat.{◌-◌}
 use lib.ListN.{get_or}
 use borrow.Author.Rules.{rules}
-use Rattle.octets.proofs.Strings.{Filled, fill_none, fill-turn, filled-whole, table-take}
+use Rattle.octets.proofs.Strings.{Filled, fill_none, fill_turn, filled-whole, table-take}
 use Rattle.octets.proofs.first_block.Statement.{statement}
 use Rattle.octets.proofs.first_block.Tie as tie
 
@@ -25,5 +25,5 @@ first-block-spec =
     (λ c. search rules)
     (λ c. search rules)
     (λ c. search rules)
-    (λ c. fill-turn c.before.before.loop.invariant c.before.loop-test.true)
+    (λ c. fill_turn c.before.before.loop.invariant c.before.loop-test.true)
     (λ c. filled-whole c.before.loop.invariant c.loop-test.false refl ∙ table-take 16 c.before.before.args.s.now c.before.before.requires))

@@ -5,7 +5,7 @@ use mathlib.Core.List.{List, ◌++◌}
 use Prim.Native.Nat.{ℕ, ◌-◌}
 use lib.ListN.{length, get_or, drop}
 use borrow.Author.Rules.{rules}
-use Rattle.octets.proofs.Strings.{Filled, fill_none, fill-turn, filled, table-getD}
+use Rattle.octets.proofs.Strings.{Filled, fill_none, fill_turn, filled, table-get_or}
 use Rattle.octets.proofs.put.Statement.{statement}
 use Rattle.octets.proofs.put.Tie as tie
 
@@ -18,7 +18,7 @@ decreases-loop out₀ s i₀ out i = length s - i
 returns : tie.Need-returns invariant-loop decreases-loop
 returns c =
     filled c.before.loop.invariant c.loop-test.false
-    ∙ ap (λ (t : List ℕ). t ++ drop (length c.before.before.args.s.now) c.before.before.args.out.now) (table-getD c.before.before.args.s.now)
+    ∙ ap (λ (t : List ℕ). t ++ drop (length c.before.before.args.s.now) c.before.before.args.out.now) (table-get_or c.before.before.args.s.now)
 
 pub put_spec : {M : Type 1} → statement M
 put_spec =
@@ -31,6 +31,6 @@ put_spec =
     (λ c. search rules)
     (λ c. search rules)
     (λ c. search rules)
-    (λ c. fill-turn c.before.before.loop.invariant c.before.loop-test.true)
+    (λ c. fill_turn c.before.before.loop.invariant c.before.loop-test.true)
     (λ c. search rules)
     returns)

@@ -5,7 +5,7 @@ use Prim.Native.Nat.{◌-◌}
 use lib.Bits.{bit_xor}
 use lib.ListN.{length, get_or}
 use borrow.Author.Rules.{rules}
-use Rattle.octets.proofs.Strings.{Filled, fill_none, fill-turn, filled-whole}
+use Rattle.octets.proofs.Strings.{Filled, fill_none, fill_turn, filled-whole}
 use Rattle.octets.proofs.Xor.{xors-table}
 use Rattle.octets.proofs.xor_block.Statement.{statement}
 use Rattle.octets.proofs.xor_block.Tie as tie
@@ -34,5 +34,5 @@ xor-block-spec =
     (λ c. search rules)
     (λ c. search rules)
     (λ c. search rules)
-    (λ c. fill-turn c.before.loop.invariant c.loop-test.true)
+    (λ c. fill_turn c.before.loop.invariant c.loop-test.true)
     returns)

@@ -1,13 +1,13 @@
 -- `receiver_script::marks_of` meets its contract.
 -- Assumes nothing.
-use Rattle.receiver_script.proofs.RecordLaws.{eight-so}
+use Rattle.receiver_script.proofs.RecordLaws.{eight_so}
 use borrow.Author.Rules.{rules}
 use Rattle.receiver_script.proofs.marks_of.Statement.{statement}
 use Rattle.receiver_script.proofs.marks_of.Tie as tie
 
 returns : tie.Need-returns
 returns c =
-    eight-so c.before.before.before.args.t1 50 c.long-number.ensures c.before.before.number.ensures c.before.number2.ensures
+    eight_so c.before.before.before.args.t1 50 c.long-number.ensures c.before.before.number.ensures c.before.number2.ensures
 
 pub marks-of-spec : {M : Type 1} → statement M
 marks-of-spec =

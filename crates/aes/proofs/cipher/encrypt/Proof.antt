@@ -2,7 +2,7 @@
 -- Assumes nothing.
 use borrow.Author.Rules.{rules}
 use Rattle.fips197.proofs.CipherLaws.{cipher-at}
-use Rattle.aes.proofs.ContextLaws.{encrypts-keys}
+use Rattle.aes.proofs.ContextLaws.{encrypts_keys}
 use Rattle.aes.proofs.cipher.encrypt.Statement.{statement}
 use Rattle.aes.proofs.cipher.encrypt.Tie as tie
 
@@ -12,4 +12,4 @@ returns c = cipher-at _ _ _ _ _ c.before.before.round-keys.ensures.0 c.before.ro
 pub encrypt-spec : {M : Type 1} → statement M
 encrypt-spec =
     tie.close
-    (tie.spec (λ c κs. search rules) (λ c κs. encrypts-keys _ _ c.before.before.before.requires) (λ c κs. search rules) (λ c κs. search rules) returns)
+    (tie.spec (λ c κs. search rules) (λ c κs. encrypts_keys _ _ c.before.before.before.requires) (λ c κs. search rules) (λ c κs. search rules) returns)

@@ -6,7 +6,7 @@ use mathlib.Core.List.{List}
 use Prim.Native.Nat.{ℕ, ◌-◌, ◌≤◌}
 use native.Mathlib.Nat.{le_antisymm}
 use borrow.Author.Rules.{rules}
-use Rattle.fips197.specs.Steps.{addRoundKey}
+use Rattle.fips197.specs.Steps.{add_round_key}
 use Rattle.fips197.specs.Cipher.{rounds}
 use Rattle.aes_schedule.specs.Words.{block_of}
 use Rattle.fips197.proofs.CipherLaws.{rounds-more}
@@ -14,7 +14,7 @@ use Rattle.aes.proofs.cipher.full_rounds.Statement.{statement}
 use Rattle.aes.proofs.cipher.full_rounds.Tie as tie
 
 abbrev invariant-loop : tie.invariant-loop
-invariant-loop t w n k₀ i₀ k i = (i ≤ n) × ((b : List ℕ) → block_of k₀ ≡ addRoundKey w 0 b → block_of k ≡ rounds w i b)
+invariant-loop t w n k₀ i₀ k i = (i ≤ n) × ((b : List ℕ) → block_of k₀ ≡ add_round_key w 0 b → block_of k ≡ rounds w i b)
 
 abbrev decreases-loop : tie.decreases-loop
 decreases-loop t w n k₀ i₀ k i = n - i
@@ -32,7 +32,7 @@ returns : tie.Need-returns invariant-loop decreases-loop
 returns c =
     let at-loop = c.before in
     let at-start = at-loop.before.before.before.before.before in
-    at-loop.loop.invariant.1 at-start.args.block (at-loop.before.add-key.ensures ∙ ap (addRoundKey at-start.args.w.now 0) at-loop.before.before.read.ensures)
+    at-loop.loop.invariant.1 at-start.args.block (at-loop.before.add-key.ensures ∙ ap (add_round_key at-start.args.w.now 0) at-loop.before.before.read.ensures)
     ∙ ap (λ (n : ℕ). rounds at-start.args.w.now n at-start.args.block) (le_antisymm at-loop.loop.invariant.0 c.loop-test.false)
 
 pub full-rounds-spec : {M : Type 1} → statement M

@@ -4,7 +4,7 @@
 use borrow.Author.Rules.{rules}
 use Rattle.octets.proofs.Strings.{bytes_of}
 use Rattle.fips197.proofs.Equivalent.{deciphered}
-use Rattle.aes.proofs.ContextLaws.{decrypts-keys}
+use Rattle.aes.proofs.ContextLaws.{decrypts_keys}
 use Rattle.aes.proofs.inverse.decrypt_words.Statement.{statement}
 use Rattle.aes.proofs.inverse.decrypt_words.Tie as tie
 
@@ -19,7 +19,7 @@ decrypt-words-spec =
     (tie.spec
     (λ c κs. search rules)
     (λ c κs. search rules)
-    (λ c κs. decrypts-keys _ _ c.before.before.before.before.requires)
+    (λ c κs. decrypts_keys _ _ c.before.before.before.before.requires)
     (λ c κs. search rules)
     (λ c κs. (c.before.before.before.inverse-table.ensures, (c.before.before.inverse-s-box.ensures, search rules)))
     returns)

@@ -6,34 +6,34 @@ use mathlib.Core.List.{List}
 use Prim.Native.Nat.{ℕ, ◌-◌, ◌≤◌}
 use native.Mathlib.Nat.{le_antisymm}
 use borrow.Author.Rules.{rules}
-use Rattle.fips197.specs.Steps.{addRoundKey}
-use Rattle.fips197.specs.Equivalent.{eqRounds}
+use Rattle.fips197.specs.Steps.{add_round_key}
+use Rattle.fips197.specs.Equivalent.{eq_rounds}
 use Rattle.aes_schedule.specs.Words.{block_of}
-use Rattle.fips197.proofs.EquivalentLaws.{eqRounds-more}
+use Rattle.fips197.proofs.EquivalentLaws.{eq_rounds-more}
 use Rattle.aes.proofs.inverse.full_inv_rounds.Statement.{statement}
 use Rattle.aes.proofs.inverse.full_inv_rounds.Tie as tie
 
 abbrev invariant-loop : tie.invariant-loop
-invariant-loop t w nr n k₀ i₀ k i = (i ≤ n) × ((b : List ℕ) → block_of k₀ ≡ addRoundKey w nr b → block_of k ≡ eqRounds w nr i b)
+invariant-loop t w nr n k₀ i₀ k i = (i ≤ n) × ((b : List ℕ) → block_of k₀ ≡ add_round_key w nr b → block_of k ≡ eq_rounds w nr i b)
 
 abbrev decreases-loop : tie.decreases-loop
 decreases-loop t w nr n k₀ i₀ k i = n - i
 
 loop-holds : tie.Need-loop-init invariant-loop decreases-loop
-unfolding eqRounds
+unfolding eq_rounds
 loop-holds c = (search rules, λ b e. e)
 
 loop-again : tie.Need-loop-preserved invariant-loop decreases-loop
 loop-again c =
     let at-loop = c.before.before in
-    (search rules, λ b e. eqRounds-more _ b _ _ _ _ (at-loop.loop.invariant.1 b e) c.full-inv-round.ensures)
+    (search rules, λ b e. eq_rounds-more _ b _ _ _ _ (at-loop.loop.invariant.1 b e) c.full-inv-round.ensures)
 
 returns : tie.Need-returns invariant-loop decreases-loop
 returns c =
     let at-loop = c.before in
     let at-start = at-loop.before.before.before.before in
     at-loop.loop.invariant.1 (block_of at-start.args.block) at-loop.before.add-key.ensures
-    ∙ ap (λ (n : ℕ). eqRounds at-start.args.w.now at-start.args.nr n (block_of at-start.args.block)) (le_antisymm at-loop.loop.invariant.0 c.loop-test.false)
+    ∙ ap (λ (n : ℕ). eq_rounds at-start.args.w.now at-start.args.nr n (block_of at-start.args.block)) (le_antisymm at-loop.loop.invariant.0 c.loop-test.false)
 
 pub full-inv-rounds-spec : {M : Type 1} → statement M
 full-inv-rounds-spec =

@@ -3,7 +3,7 @@
 use mathlib.Core.Path.{ap, ◌∙◌}
 use lib.ListN.{length}
 use Rattle.octets.proofs.Strings.{length-table}
-use Rattle.field.specs.SBox.{invSBox}
+use Rattle.field.specs.SBox.{inv_s_box}
 use Rattle.aes.proofs.TableLaws.{unshift-block}
 use Rattle.aes.proofs.inverse.inv_sub_shift.Statement.{statement}
 use Rattle.aes.proofs.inverse.inv_sub_shift.Tie as tie
@@ -17,8 +17,8 @@ pub inv-sub-shift-spec : {M : Type 1} → statement M
 inv-sub-shift-spec =
     tie.close
     (tie.spec
-    (λ c κs. ap length c.before.requires ∙ length-table invSBox 256)
-    (λ c κs. ap length c.before.before.requires ∙ length-table invSBox 256)
-    (λ c κs. ap length c.before.before.before.requires ∙ length-table invSBox 256)
-    (λ c κs. ap length c.before.before.before.before.requires ∙ length-table invSBox 256)
+    (λ c κs. ap length c.before.requires ∙ length-table inv_s_box 256)
+    (λ c κs. ap length c.before.before.requires ∙ length-table inv_s_box 256)
+    (λ c κs. ap length c.before.before.before.requires ∙ length-table inv_s_box 256)
+    (λ c κs. ap length c.before.before.before.before.requires ∙ length-table inv_s_box 256)
     returns)

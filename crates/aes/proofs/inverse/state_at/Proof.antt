@@ -6,8 +6,8 @@ use mathlib.Core.List.{List}
 use Prim.Native.Nat.{ℕ, ◌+◌, ◌*◌, ◌/◌}
 use native.Mathlib.Omega.{arith}
 use borrow.Author.Rules.{rules}
-use Rattle.fips197.specs.Steps.{addRoundKey}
-use Rattle.fips197.specs.Equivalent.{eqState}
+use Rattle.fips197.specs.Steps.{add_round_key}
+use Rattle.fips197.specs.Equivalent.{eq_state}
 use Rattle.fips197.proofs.EquivalentLaws.{at-round, at-sub, at-shift, at-mix, at_last}
 use Rattle.aes_schedule.specs.Words.{block_of}
 use Rattle.aes.proofs.inverse.state_at.Statement.{statement}
@@ -15,14 +15,14 @@ use Rattle.aes.proofs.inverse.state_at.Tie as tie
 
 -- what its round begins with
 begins : (c : tie.After-full-inv-rounds) → let a = c.before.before.before.before.args in
-    eqState a.w.now a.nr (4 * (a.k / 4)) (block_of a.block) ≡ block_of c.full-inv-rounds.result
+    eq_state a.w.now a.nr (4 * (a.k / 4)) (block_of a.block) ≡ block_of c.full-inv-rounds.result
 begins c =
     let at-start = c.before.before.before.before in
     at-round at-start.args.w.now _ at-start.args.nr (at-start.args.k / 4) (omega (arith, at-start.requires.1.1.0)) ∙ sym c.full-inv-rounds.ensures
 
 -- by the number of the step
-numbered : (dw s : List ℕ) (nr m k : ℕ) {r x : List ℕ} → m ≡ k → r ≡ x → eqState dw nr m s ≡ x → r ≡ eqState dw nr k s
-numbered dw s nr m k e p q = p ∙ sym q ∙ ap (λ (j : ℕ). eqState dw nr j s) e
+numbered : (dw s : List ℕ) (nr m k : ℕ) {r x : List ℕ} → m ≡ k → r ≡ x → eq_state dw nr m s ≡ x → r ≡ eq_state dw nr k s
+numbered dw s nr m k e p q = p ∙ sym q ∙ ap (λ (j : ℕ). eq_state dw nr j s) e
 
 -- the fourth step of a round
 fourth : (c : tie.Else3) → let k = c.before.before.before.before.before.before.before.args.k in 4 * (k / 4) + 3 ≡ k
@@ -40,7 +40,7 @@ returns-3 c = numbered _ _ _ _ _ (omega (arith, c.before.if3.true)) c.inv-sub-sh
 returns-4 : tie.Need-returns-4
 returns-4 c =
     numbered _ _ _ _ _ (fourth c.before.before.before)
-    (c.add-key.ensures ∙ ap (addRoundKey _ _) c.before.inv-sub-shift2.ensures)
+    (c.add-key.ensures ∙ ap (add_round_key _ _) c.before.inv-sub-shift2.ensures)
     (at_last _ _ _ _ _ (begins c.before.before.before.before.before.before) (omega (arith, c.before.before.if4.true)))
 
 returns-5 : tie.Need-returns-5

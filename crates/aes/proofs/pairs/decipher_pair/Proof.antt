@@ -4,7 +4,7 @@ use mathlib.Core.Path.{ap, ◌∙◌}
 use mathlib.Core.List.{List}
 use Prim.Native.Nat.{ℕ}
 use borrow.Author.Rules.{rules}
-use Rattle.fips197.specs.Steps.{invSubBytes, invShiftRows, addRoundKey}
+use Rattle.fips197.specs.Steps.{inv_sub_bytes, inv_shift_rows, add_round_key}
 use Rattle.aes.specs.Pairs.{Both}
 use Rattle.aes.proofs.PairLaws.{both-then}
 use Rattle.aes.proofs.pairs.decipher_pair.Statement.{statement}
@@ -12,9 +12,9 @@ use Rattle.aes.proofs.pairs.decipher_pair.Tie as tie
 
 returns : tie.Need-returns
 returns c =
-    let subbed : Both (λ s. invShiftRows (invSubBytes s)) _ _ = record { first = c.before.before.inv-sub-shift.ensures; second = c.before.inv-sub-shift2.ensures } in
-    both-then (λ s t u e f. f ∙ ap (addRoundKey _ _) e)
-    (both-then (λ s t u e f. f ∙ ap (λ (x : List ℕ). invShiftRows (invSubBytes x)) e) c.before.before.before.before.before.pair-inv-rounds.ensures subbed)
+    let subbed : Both (λ s. inv_shift_rows (inv_sub_bytes s)) _ _ = record { first = c.before.before.inv-sub-shift.ensures; second = c.before.inv-sub-shift2.ensures } in
+    both-then (λ s t u e f. f ∙ ap (add_round_key _ _) e)
+    (both-then (λ s t u e f. f ∙ ap (λ (x : List ℕ). inv_shift_rows (inv_sub_bytes x)) e) c.before.before.before.before.before.pair-inv-rounds.ensures subbed)
     c.add-keys.ensures
 
 pub decipher-pair-spec : {M : Type 1} → statement M

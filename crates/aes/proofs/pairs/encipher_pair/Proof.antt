@@ -4,7 +4,7 @@ use mathlib.Core.Path.{ap, ◌∙◌}
 use mathlib.Core.List.{List}
 use Prim.Native.Nat.{ℕ}
 use borrow.Author.Rules.{rules}
-use Rattle.fips197.specs.Steps.{subBytes, shiftRows, addRoundKey}
+use Rattle.fips197.specs.Steps.{sub_bytes, shift_rows, add_round_key}
 use Rattle.aes.specs.Pairs.{Both}
 use Rattle.aes.proofs.PairLaws.{both-then}
 use Rattle.aes.proofs.pairs.encipher_pair.Statement.{statement}
@@ -12,9 +12,9 @@ use Rattle.aes.proofs.pairs.encipher_pair.Tie as tie
 
 returns : tie.Need-returns
 returns c =
-    let subbed : Both (λ s. shiftRows (subBytes s)) _ _ = record { first = c.before.before.sub-shift.ensures; second = c.before.sub-shift2.ensures } in
-    both-then (λ s t u e f. f ∙ ap (addRoundKey _ _) e)
-    (both-then (λ s t u e f. f ∙ ap (λ (x : List ℕ). shiftRows (subBytes x)) e) c.before.before.before.before.before.pair-rounds.ensures subbed)
+    let subbed : Both (λ s. shift_rows (sub_bytes s)) _ _ = record { first = c.before.before.sub-shift.ensures; second = c.before.sub-shift2.ensures } in
+    both-then (λ s t u e f. f ∙ ap (add_round_key _ _) e)
+    (both-then (λ s t u e f. f ∙ ap (λ (x : List ℕ). shift_rows (sub_bytes x)) e) c.before.before.before.before.before.pair-rounds.ensures subbed)
     c.add-keys.ensures
 
 pub encipher-pair-spec : {M : Type 1} → statement M

@@ -2,7 +2,7 @@
 -- Assumes nothing.
 use mathlib.Core.Path.{ap, ◌∙◌}
 use borrow.Author.Rules.{rules}
-use Rattle.field.specs.SBox.{sBox}
+use Rattle.field.specs.SBox.{s_box}
 use Rattle.aes_schedule.proofs.WordLaws.{four}
 use Rattle.aes.proofs.TableLaws.{entry-boxes}
 use Rattle.aes.proofs.table.shifted.Statement.{statement}
@@ -15,7 +15,7 @@ returns c =
     let second = third.before.before in
     let first = second.before.before in
     c.join.ensures
-    ∙ four (first.boxed.ensures ∙ ap sBox first.before.first.ensures) (second.boxed2.ensures ∙ ap sBox second.before.second.ensures) (third.boxed3.ensures ∙ ap sBox third.before.third.ensures) (fourth.boxed4.ensures ∙ ap sBox fourth.before.fourth.ensures)
+    ∙ four (first.boxed.ensures ∙ ap s_box first.before.first.ensures) (second.boxed2.ensures ∙ ap s_box second.before.second.ensures) (third.boxed3.ensures ∙ ap s_box third.before.third.ensures) (fourth.boxed4.ensures ∙ ap s_box fourth.before.fourth.ensures)
 
 pub shifted-spec : {M : Type 1} → statement M
 shifted-spec =

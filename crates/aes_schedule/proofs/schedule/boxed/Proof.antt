@@ -5,7 +5,7 @@ use Rattle.aes_schedule.proofs.schedule.boxed.Statement.{statement}
 use Rattle.aes_schedule.proofs.schedule.boxed.Tie as tie
 
 returns : tie.Need-returns
-returns c = c.before.requires.box-is c.before.args.x (search rules)
+returns c = c.before.requires.box_is c.before.args.x (search rules)
 
 pub boxed-spec : {M : Type 1} → statement M
 boxed-spec = tie.close (tie.spec (λ c. search rules) (λ c. search rules) (λ c. search rules) returns)

@@ -7,7 +7,7 @@ use borrow.Author.Rules.{rules}
 use Rattle.octets.specs.Xor.{xors}
 use Rattle.fips197.proofs.ScheduleLaws.{key-words}
 use Rattle.aes_schedule.proofs.WordLaws.{xor_bytes}
-use Rattle.aes_schedule.proofs.ExpandLaws.{Turning, few, room-for-two, fits-two, second, turned, expand-none, expand-turn, expand-all}
+use Rattle.aes_schedule.proofs.ExpandLaws.{Turning, few, room_for_two, fits-two, second, turned, expand_none, expand_turn, expand_all}
 use Rattle.aes_schedule.proofs.schedule.expand.Statement.{statement}
 use Rattle.aes_schedule.proofs.schedule.expand.Tie as tie
 
@@ -25,7 +25,7 @@ holds : tie.Need-loop-init invariant-loop decreases-loop
 holds c =
     let at-put = c.before.before.before in
     let h = at-put.before.before.before.before.requires in
-    expand-none _ _ _ _ h.0 h.1.1.1 at-put.put.ensures _ h.1.0 h.1.1.0 c.before.before.ctx.given.1 c.word_at.ensures
+    expand_none _ _ _ _ h.0 h.1.1.1 at-put.put.ensures _ h.1.0 h.1.1.0 c.before.before.ctx.given.1 c.word_at.ensures
 
 again : tie.Need-loop-preserved invariant-loop decreases-loop
 again c =
@@ -38,15 +38,15 @@ again c =
     let at_test = at_next.before.before in
     let v = at_test.before.loop.invariant in
     let h = at_test.loop-test.true in
-    let one = expand-turn v.words _ _ _ h at_next.next_word.ensures at-split₁.split.ensures at-put₁.put2.ensures at-word.before.before.before.ctx2.given.1 in
-    let two = expand-turn one _ _ _ (room-for-two v h) (xor_bytes _ _ ∙ ap₂ xors at-word.word-at2.ensures (sym (second v _))) at_split.split2.ensures at-put.put3.ensures c.before.before.ctx3.given.1 in
+    let one = expand_turn v.words _ _ _ h at_next.next_word.ensures at-split₁.split.ensures at-put₁.put2.ensures at-word.before.before.before.ctx2.given.1 in
+    let two = expand_turn one _ _ _ (room_for_two v h) (xor_bytes _ _ ∙ ap₂ xors at-word.word-at2.ensures (sym (second v _))) at_split.split2.ensures at-put.put3.ensures c.before.before.ctx3.given.1 in
     turned v two c.next_place.ensures.0 c.next_place.ensures.1
 
 returns : tie.Need-returns invariant-loop decreases-loop
 returns c =
     let at-put = c.before.before.before.before.before in
     let h = at-put.before.before.before.before.requires in
-    expand-all _ _ _ _ h.0 h.1.1.1 at-put.put.ensures c.before.loop.invariant.words c.loop-test.false
+    expand_all _ _ _ _ h.0 h.1.1.1 at-put.put.ensures c.before.loop.invariant.words c.loop-test.false
 
 pub expand-spec : {M : Type 1} → statement M
 expand-spec =
@@ -66,7 +66,7 @@ expand-spec =
     (λ c. search rules)
     (λ c κs.
     let v = c.before.before.loop.invariant in
-    (v.words.boxes, ((v.place.inside, few v c.before.loop-test.true), (v.so-many, search rules))))
+    (v.words.boxes, ((v.place.inside, few v c.before.loop-test.true), (v.so_many, search rules))))
     (λ c. search rules)
     (λ c. search rules)
     (λ c. search rules)

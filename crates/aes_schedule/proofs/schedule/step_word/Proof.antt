@@ -5,8 +5,8 @@ use Prim.Native.Nat.{ℕ, ◌+◌, ◌-◌, ◌%◌}
 use lib.Bits.{bit_xor}
 use borrow.Author.Rules.{rules}
 use Rattle.octets.specs.Xor.{xors}
-use Rattle.fips197.specs.Schedule.{subWord, rotWord, power, rcon}
-use Rattle.fips197.proofs.ScheduleLaws.{temp-first, temp-middle, temp-short, temp-other}
+use Rattle.fips197.specs.Schedule.{sub_word, rot_word, power, rcon}
+use Rattle.fips197.proofs.ScheduleLaws.{temp-first, temp_middle, temp-short, temp_other}
 use Rattle.aes_schedule.specs.Place.{passed}
 use Rattle.aes_schedule.specs.Words.{bytes_of}
 use Rattle.aes_schedule.proofs.WordLaws.{xor_bytes}
@@ -15,9 +15,9 @@ use Rattle.aes_schedule.proofs.schedule.step_word.Statement.{statement}
 use Rattle.aes_schedule.proofs.schedule.step_word.Tie as tie
 
 -- RotWord, SubWord and Rcon
-first : (x r y p j : ℕ) → bytes_of r ≡ rotWord (bytes_of x) → bytes_of y ≡ subWord (bytes_of r) → p ≡ power (j - 1) →
-    bytes_of (bit_xor y p) ≡ xors (subWord (rotWord (bytes_of x))) (rcon j)
-first x r y p j e f g = xor_bytes y p ∙ ap₂ xors (f ∙ ap subWord e) (rcon-word j p g)
+first : (x r y p j : ℕ) → bytes_of r ≡ rot_word (bytes_of x) → bytes_of y ≡ sub_word (bytes_of r) → p ≡ power (j - 1) →
+    bytes_of (bit_xor y p) ≡ xors (sub_word (rot_word (bytes_of x))) (rcon j)
+first x r y p j e f g = xor_bytes y p ∙ ap₂ xors (f ∙ ap sub_word e) (rcon-word j p g)
 
 rest : (c : tie.Start) → let a = c.args in (a.nk + passed a.nk a.p) % a.nk ≡ a.p.k
 rest c = remainder_is _ _ _ c.requires.1.0
@@ -32,12 +32,12 @@ returns-2 : tie.Need-returns-2
 returns-2 c =
     let e = rest c.before.before.before.before.before.before.before in
     c.sub-word2.ensures
-    ∙ sym (temp-middle _ _ _ (λ h. c.before.before.before.before.if1.false (sym e ∙ h)) c.before.before.before.if2.true (e ∙ c.before.if3.true))
+    ∙ sym (temp_middle _ _ _ (λ h. c.before.before.before.before.if1.false (sym e ∙ h)) c.before.before.before.if2.true (e ∙ c.before.if3.true))
 
 returns-3 : tie.Need-returns-3
 returns-3 c =
     let e = rest c.before.before.before.before.before.before in
-    sym (temp-other _ _ _ (λ h. c.before.before.before.if1.false (sym e ∙ h)) (λ h. c.if3.false (sym e ∙ h)))
+    sym (temp_other _ _ _ (λ h. c.before.before.before.if1.false (sym e ∙ h)) (λ h. c.if3.false (sym e ∙ h)))
 
 returns-4 : tie.Need-returns-4
 returns-4 c = let e = rest c.before.before.before.before in sym (temp-short _ _ _ (λ h. c.before.if1.false (sym e ∙ h)) c.if2.false)

@@ -2,14 +2,14 @@
 -- Assumes nothing.
 use mathlib.Core.Path.{refl}
 use Rattle.octets.specs.Strings.{table}
-use Rattle.field.specs.Field.{xtime, mulBits, mul, squares, inverse}
-use Rattle.field.specs.SBox.{bits_of, invAffine, invSBox}
-use Rattle.aes_tables.specs.Round.{multiples, inverseEntry, entries}
+use Rattle.field.specs.Field.{xtime, mul_bits, mul, squares, inverse}
+use Rattle.field.specs.SBox.{bits_of, inv_affine, inv_s_box}
+use Rattle.aes_tables.specs.Round.{multiples, inverse_entry, entries}
 use Rattle.aes_tables.proofs.round.inverses.Statement.{statement}
 use Rattle.aes_tables.proofs.round.inverses.Tie as tie
 
 returns : tie.Need-returns
-unfolding table xtime mulBits mul squares inverse bits_of invAffine invSBox multiples inverseEntry entries
+unfolding table xtime mul_bits mul squares inverse bits_of inv_affine inv_s_box multiples inverse_entry entries
 returns c = refl
 
 pub inverses-spec : {M : Type 1} → statement M

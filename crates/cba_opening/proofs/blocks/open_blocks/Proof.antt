@@ -3,16 +3,16 @@
 use mathlib.Core.Path.{◌∙◌}
 use native.Mathlib.Omega.{arith}
 use borrow.Author.Rules.{rules}
-use Rattle.fips197.specs.Cipher.{invCipher}
-use Rattle.cba_steps.specs.Halves.{halvesOf}
-use Rattle.cba_sealing.proofs.BlockLaws.{going-none, goes_end, sum-none, sumOut}
+use Rattle.fips197.specs.Cipher.{inv_cipher}
+use Rattle.cba_steps.specs.Halves.{halves_of}
+use Rattle.cba_sealing.proofs.BlockLaws.{going_none, goes_end, sum-none, sum_out}
 use Rattle.cba_opening.proofs.blocks.open_blocks.Statement.{statement}
 use Rattle.cba_opening.proofs.blocks.open_blocks.Tie as tie
 
 returns : tie.Need-returns
 returns c =
     let a = c.before.before.before.before.before.args in
-    goes_end {σ = sumOut (invCipher a.key.now) (halvesOf a.start) a.ciphertext.now} (going-none _ (c.read.ensures ∙ sum-none _)) (omega (arith, c.before.if1.true))
+    goes_end {σ = sum_out (inv_cipher a.key.now) (halves_of a.start) a.ciphertext.now} (going_none _ (c.read.ensures ∙ sum-none _)) (omega (arith, c.before.if1.true))
 
 pub open-blocks-spec : {M : Type 1} → statement M
 open-blocks-spec =

@@ -5,18 +5,18 @@ use mathlib.Core.List.{List, ◌++◌}
 use Prim.Native.Nat.{ℕ}
 use borrow.Author.Rules.{rules}
 use Rattle.octets.specs.Xor.{xors}
-use Rattle.fips197.specs.Cipher.{invCipher}
+use Rattle.fips197.specs.Cipher.{inv_cipher}
 use Rattle.aes_schedule.specs.Words.{block_of}
-use Rattle.cba_steps.specs.Halves.{halvesOf}
+use Rattle.cba_steps.specs.Halves.{halves_of}
 use Rattle.cba_mode.specs.Offsets.{F, offset}
-use Rattle.cba_mode.specs.Seal.{cipherBlocks}
+use Rattle.cba_mode.specs.Seal.{cipher_blocks}
 use Rattle.cba_sealing.specs.Calls.{through, summed}
 use Rattle.cba_sealing.proofs.BlockLaws.{passed-two}
 use Rattle.cba_opening.proofs.blocks.open_two.Statement.{statement}
 use Rattle.cba_opening.proofs.blocks.open_two.Tie as tie
 
 returns : tie.Need-returns
-unfolding summed offset cipherBlocks
+unfolding summed offset cipher_blocks
 returns c =
     let at-put = c.before.before.before.before in
     let at_open = at-put.before.before.before.before in
@@ -24,12 +24,12 @@ returns c =
     let next = at_next.before.doubled.ensures in
     let next2 = at_next.doubled2.ensures ∙ ap (F 2 2) next in
     let a = at_next.before.before.before.before.before.before.before.args in
-    let D = invCipher a.key.now in
+    let D = inv_cipher a.key.now in
     let m = at_open.opened-pair.ensures in
     let first = m.first ∙ ap₂ (through D) next at_open.before.before.words-at.ensures in
     let second = m.second ∙ ap₂ (through D) next2 at_open.before.words-at2.ensures in
-    passed-two D _ (halvesOf a.s.offset) a.ciphertext.now a.out.now _ _ _ _ next2
-    (c.xor-words2.ensures ∙ ap (λ (x : List ℕ). xors x (block_of at_open.opened-pair.result.y)) c.before.xor-words.ensures
+    passed-two D _ (halves_of a.s.offset) a.ciphertext.now a.out.now _ _ _ _ next2
+    (c.xor-words2.ensures ∙ ap (λ (x : List ℕ). xors x (block_of at_open.opened-pair.result.y)) c.before.xor_words.ensures
     ∙ ap (λ (x : List ℕ). summed (block_of a.s.sum) x 2) (ap₂ ◌++◌ first second))
     first second refl at-put.put-pair.ensures
 

@@ -1,7 +1,7 @@
 -- `cba_opening::blocks::opened_pair` meets its contract, by those of the functions that it calls.
 -- Assumes nothing.
 use borrow.Author.Rules.{rules}
-use Rattle.fips197.specs.Cipher.{invCipher}
+use Rattle.fips197.specs.Cipher.{inv_cipher}
 use Rattle.cba_sealing.proofs.BlockLaws.{through-block}
 use Rattle.cba_opening.proofs.blocks.opened_pair.Statement.{statement}
 use Rattle.cba_opening.proofs.blocks.opened_pair.Tie as tie
@@ -13,8 +13,8 @@ returns c =
     let i = at-xor.xor-pair.ensures in
     let r = c.xor-pair2.ensures in
     record {
-      first = through-block (invCipher _) _ _ at-xor.before.before.words.ensures i.first e.first r.first;
-      second = through-block (invCipher _) _ _ at-xor.before.words2.ensures i.second e.second r.second;
+      first = through-block (inv_cipher _) _ _ at-xor.before.before.words.ensures i.first e.first r.first;
+      second = through-block (inv_cipher _) _ _ at-xor.before.words2.ensures i.second e.second r.second;
     }
 
 pub opened-pair-spec : {M : Type 1} → statement M

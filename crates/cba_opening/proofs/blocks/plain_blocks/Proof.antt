@@ -4,16 +4,16 @@ use mathlib.Core.Path.{◌∙◌}
 use Prim.Native.Nat.{◌-◌}
 use native.Mathlib.Omega.{arith}
 use borrow.Author.Rules.{rules}
-use Rattle.fips197.specs.Cipher.{invCipher}
-use Rattle.cba_steps.specs.Halves.{halvesOf}
-use Rattle.cba_sealing.proofs.BlockLaws.{Going, going-none, goes_on, goes_end, sum-none, sumOut, sum-out}
+use Rattle.fips197.specs.Cipher.{inv_cipher}
+use Rattle.cba_steps.specs.Halves.{halves_of}
+use Rattle.cba_sealing.proofs.BlockLaws.{Going, going_none, goes_on, goes_end, sum-none, sum_out, sum-out}
 use Rattle.cba_opening.proofs.blocks.plain_blocks.Statement.{statement}
 use Rattle.cba_opening.proofs.blocks.plain_blocks.Tie as tie
 
 abbrev invariant-loop : tie.invariant-loop
 invariant-loop key inv ciphertext k out₀ s₀ i₀ out s i =
-    let Δ = halvesOf s₀.offset in
-    Going (invCipher key) (sumOut (invCipher key) Δ ciphertext) Δ ciphertext out₀ k i s out
+    let Δ = halves_of s₀.offset in
+    Going (inv_cipher key) (sum_out (inv_cipher key) Δ ciphertext) Δ ciphertext out₀ k i s out
 
 abbrev decreases-loop : tie.decreases-loop
 decreases-loop key inv ciphertext k out₀ s₀ i₀ out s i = k - i
@@ -44,7 +44,7 @@ plain-blocks-spec =
     invariant-loop
     decreases-loop
     (λ c κs. search rules)
-    (λ c. going-none _ (c.read.ensures ∙ sum-none _))
+    (λ c. going_none _ (c.read.ensures ∙ sum-none _))
     (λ c. search rules)
     (λ c. search rules)
     (λ c. search rules)

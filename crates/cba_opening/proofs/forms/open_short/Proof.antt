@@ -4,8 +4,8 @@ use mathlib.Core.Path.{ap}
 use Prim.Native.Nat.{ℕ, ◌-◌}
 use native.Mathlib.Omega.{arith}
 use lib.ListN.{length, length-take, length-drop}
-use Rattle.fips197.specs.Cipher.{cipher, invCipher}
-use Rattle.cba_sealing.specs.Calls.{dataTag}
+use Rattle.fips197.specs.Cipher.{cipher, inv_cipher}
+use Rattle.cba_sealing.specs.Calls.{data_tag}
 use Rattle.cba_opening.proofs.OpenForms.{short-turn}
 use borrow.Author.Rules.{rules}
 use Rattle.cba_opening.proofs.forms.open_short.Statement.{statement}
@@ -32,7 +32,7 @@ returns c =
     let a = at-start.args in
     let b = c.before.before.before.before.before.before.before.before.cover.ensures in
     let t = c.before.before.before.before.before.before.before.before.before.before.before.tag-bytes.ensures in
-    short-turn (cipher a.key.now) (invCipher a.key.now) a.p.tau a.p.capacity a.nonce.now (dataTag a.p a.sum) a.ciphertext.now a.out.now c.before.before.before.before.before.before.before.before.cover.new.1.1.1.1.1.1.0 _ _ _ _ _ _
+    short-turn (cipher a.key.now) (inv_cipher a.key.now) a.p.tau a.p.capacity a.nonce.now (data_tag a.p a.sum) a.ciphertext.now a.out.now c.before.before.before.before.before.before.before.before.cover.new.1.1.1.1.1.1.0 _ _ _ _ _ _
     at-start.requires.1.1 (ap (λ (n : ℕ). length a.ciphertext.now - n) t) t b.written b.data_is b.offset-is c.before.before.before.short-tag.ensures c.same.ensures
 
 pub open-short-spec : {M : Type 1} → statement M

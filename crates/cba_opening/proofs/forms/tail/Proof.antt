@@ -2,9 +2,9 @@
 -- Assumes nothing.
 use native.Mathlib.Omega.{arith}
 use lib.ListN.{length, length-take, length-drop}
-use Rattle.fips197.specs.Cipher.{cipher, invCipher}
-use Rattle.cba_steps.specs.Halves.{halvesOf}
-use Rattle.cba_opening.specs.Calls.{endAs}
+use Rattle.fips197.specs.Cipher.{cipher, inv_cipher}
+use Rattle.cba_steps.specs.Halves.{halves_of}
+use Rattle.cba_opening.specs.Calls.{end_as}
 use Rattle.cba_opening.proofs.AttemptLaws.{blocks-turn}
 use borrow.Author.Rules.{rules}
 use Rattle.cba_opening.proofs.forms.tail.Statement.{statement}
@@ -26,9 +26,9 @@ returns c =
     let q = at-start.requires.1 in
     let j = c.before.before.before.before.if1.true in
     let E = cipher a.key.now in
-    let D = invCipher a.key.now in
+    let D = inv_cipher a.key.now in
     rw j
-    (blocks-turn E D (endAs _ E D a.tag.now) (length a.tag.now) (halvesOf a.offset) a.rest.now a.out.now _ c.before.before.joined-end.new.1.1.1.1.1.0 at-blocks.open_blocks.result a.e.blocks _
+    (blocks-turn E D (end_as _ E D a.tag.now) (length a.tag.now) (halves_of a.offset) a.rest.now a.out.now _ c.before.before.joined-end.new.1.1.1.1.1.0 at-blocks.open_blocks.result a.e.blocks _
     (omega (arith, q.0.within)) q.1.1 at-blocks.open_blocks.auto.1.1.1.1.1.0 at-blocks.open_blocks.ensures c.before.before.joined-end.ensures c.before.before.joined-end.auto.1.1.1.1.1.0)
 
 separate-end-requires : tie.Need-separate-end-requires
@@ -48,9 +48,9 @@ returns-2 c =
     let q = at-start.requires.1 in
     let j = c.before.before.before.before.if1.false in
     let E = cipher a.key.now in
-    let D = invCipher a.key.now in
+    let D = inv_cipher a.key.now in
     rw j
-    (blocks-turn E D (endAs _ E D a.tag.now) (length a.tag.now) (halvesOf a.offset) a.rest.now a.out.now _ c.before.before.separate-end.new.1.1.1.1.1.0 at-blocks.open_blocks.result a.e.blocks _
+    (blocks-turn E D (end_as _ E D a.tag.now) (length a.tag.now) (halves_of a.offset) a.rest.now a.out.now _ c.before.before.separate-end.new.1.1.1.1.1.0 at-blocks.open_blocks.result a.e.blocks _
     (omega (arith, q.0.within)) q.1.1 at-blocks.open_blocks.auto.1.1.1.1.1.0 at-blocks.open_blocks.ensures c.before.before.separate-end.ensures c.before.before.separate-end.auto.1.1.1.1.1.0)
 
 pub tail-spec : {M : Type 1} → statement M

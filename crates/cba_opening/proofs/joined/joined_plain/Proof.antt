@@ -4,7 +4,7 @@ use mathlib.Core.Path.{ap, ap₂, ◌∙◌}
 use Rattle.octets.specs.Xor.{xors}
 use Rattle.fips197.specs.Cipher.{cipher}
 use borrow.Author.Rules.{rules}
-use Rattle.cba_mode.specs.Open.{joinedPlain}
+use Rattle.cba_mode.specs.Open.{joined_plain}
 use Rattle.cba_opening.proofs.joined.joined_plain.Statement.{statement}
 use Rattle.cba_opening.proofs.joined.joined_plain.Tie as tie
 
@@ -14,7 +14,7 @@ encrypt-requires c κs =
     p
 
 returns : tie.Need-returns
-unfolding joinedPlain
+unfolding joined_plain
 returns c =
     let at-step = c.before.before.before.before in
     c.xor-block3.ensures

@@ -2,10 +2,10 @@
 -- Assumes nothing.
 use native.Mathlib.Omega.{arith}
 use lib.ListN.{length-take, length-drop}
-use Rattle.fips197.specs.Cipher.{cipher, invCipher}
+use Rattle.fips197.specs.Cipher.{cipher, inv_cipher}
 use Rattle.aes_schedule.specs.Words.{block_of}
-use Rattle.cba_steps.specs.Halves.{halvesOf}
-use Rattle.cba_opening.proofs.AttemptLaws.{separate-end-turn}
+use Rattle.cba_steps.specs.Halves.{halves_of}
+use Rattle.cba_opening.proofs.AttemptLaws.{separate_end_turn}
 use borrow.Author.Rules.{rules}
 use Rattle.cba_opening.proofs.separate.separate_end.Statement.{statement}
 use Rattle.cba_opening.proofs.separate.separate_end.Tie as tie
@@ -32,7 +32,7 @@ returns c =
     let at-start = c.before.before.before.before.before.before.before.before.before.before.before.before.before.before.before.before.before in
     let a = at-start.args in
     let h = at-start.requires.1.1 in
-    separate-end-turn (cipher a.key.now) (invCipher a.key.now) a.tag.now (halvesOf a.s.offset) (block_of a.s.sum) a.rest.now a.out.now _ c.before.before.before.before.before.before.before.before.last_block.new.1.1.1.1.1.0 _
+    separate_end_turn (cipher a.key.now) (inv_cipher a.key.now) a.tag.now (halves_of a.s.offset) (block_of a.s.sum) a.rest.now a.out.now _ c.before.before.before.before.before.before.before.before.last_block.new.1.1.1.1.1.0 _
     h.0 h.1.1 c.before.before.before.before.before.before.before.before.last_block.ensures c.before.before.before.before.before.before.before.before.last_block.auto.1.1.1.1.1.0 (rw c.before.before.before.before.before.write.ensures at c.before.before.before.tag-block.ensures) c.same.ensures
 
 pub separate-end-spec : {M : Type 1} → statement M

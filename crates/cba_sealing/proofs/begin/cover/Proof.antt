@@ -6,8 +6,8 @@ use lib.ListN.{length, length-take}
 use Rattle.fips197.specs.Cipher.{cipher}
 use Rattle.cba_mode.specs.Offsets.{start}
 use Rattle.cba_mode.specs.Seal.{R}
-use Rattle.cba_sealing.specs.Calls.{dataTag}
-use Rattle.cba_sealing.proofs.PieceLaws.{tag-taken}
+use Rattle.cba_sealing.specs.Calls.{data_tag}
+use Rattle.cba_sealing.proofs.PieceLaws.{tag_taken}
 use Rattle.cba_sealing.proofs.BeginLaws.{first_out}
 use borrow.Author.Rules.{rules}
 use Rattle.cba_sealing.proofs.begin.cover.Statement.{statement}
@@ -17,7 +17,7 @@ use Rattle.cba_sealing.proofs.begin.cover.Tie as tie
 taken : tie.Need-slice-aggregate-right-aligned
 taken c =
     let l : length c.before.before.before.before.before.before.before.before.before.before.before.before.before.before.args.t5 ≡ 16 = search rules in
-    rw c.before.tag-bytes.ensures (sym (tag-taken _ _ c.before.before.before.before.before.before.before.before.before.before.before.before.before.before.requires.1.0.fits.0 l))
+    rw c.before.tag-bytes.ensures (sym (tag_taken _ _ c.before.before.before.before.before.before.before.before.before.before.before.before.before.before.requires.1.0.fits.0 l))
 
 returns : tie.Need-returns
 unfolding R
@@ -30,8 +30,8 @@ returns c =
     record {
       offset-is = c.before.before.before.start.ensures ∙ ap₂ start r c.before.before.before.before.first-bits.ensures;
       data_is = rw t at c.right-aligned.ensures;
-      data-size = rw t at (sym (taken c.before));
-      written = first_out (cipher a.key.now) a.p.tau a.p.capacity a.nonce.now (dataTag a.p a.t5) a.first.now _ a.out.now _ r size at-start.requires.1.1.0 c.before.before.before.before.before.before.before.mask.ensures;
+      data_size = rw t at (sym (taken c.before));
+      written = first_out (cipher a.key.now) a.p.tau a.p.capacity a.nonce.now (data_tag a.p a.t5) a.first.now _ a.out.now _ r size at-start.requires.1.1.0 c.before.before.before.before.before.before.before.mask.ensures;
     }
 
 pub cover-spec : {M : Type 1} → statement M

@@ -5,14 +5,14 @@ use Prim.Native.Nat.{◌-◌}
 use native.Mathlib.Omega.{arith}
 use borrow.Author.Rules.{rules}
 use Rattle.fips197.specs.Cipher.{cipher}
-use Rattle.cba_steps.specs.Halves.{halvesOf}
+use Rattle.cba_steps.specs.Halves.{halves_of}
 use Rattle.cba_mode.specs.Seal.{checksum}
-use Rattle.cba_sealing.proofs.BlockLaws.{Going, going-none, goes_on, goes_end, sum-none, sum-in}
+use Rattle.cba_sealing.proofs.BlockLaws.{Going, going_none, goes_on, goes_end, sum-none, sum_in}
 use Rattle.cba_sealing.proofs.blocks.full_blocks.Statement.{statement}
 use Rattle.cba_sealing.proofs.blocks.full_blocks.Tie as tie
 
 abbrev invariant-loop : tie.invariant-loop
-invariant-loop key ctx message k out₀ s₀ i₀ out s i = Going (cipher key) (checksum message) (halvesOf s₀.offset) message out₀ k i s out
+invariant-loop key ctx message k out₀ s₀ i₀ out s i = Going (cipher key) (checksum message) (halves_of s₀.offset) message out₀ k i s out
 
 abbrev decreases-loop : tie.decreases-loop
 decreases-loop key ctx message k out₀ s₀ i₀ out s i = k - i
@@ -22,7 +22,7 @@ again c =
     let at-two = c.before.before in
     let at_test = at-two.before.before.before in
     let inv = at_test.before.loop.invariant in
-    goes_on inv 2 (omega (arith, at_test.loop-test.true)) at_test.before.before.before.before.before.before.requires.1.1 at-two.seal-two.ensures at-two.seal-two.auto.1.1.1.1.0 c.before.out.given.1 (sum-in inv 2)
+    goes_on inv 2 (omega (arith, at_test.loop-test.true)) at_test.before.before.before.before.before.before.requires.1.1 at-two.seal-two.ensures at-two.seal-two.auto.1.1.1.1.0 c.before.out.given.1 (sum_in inv 2)
 
 returns : tie.Need-returns invariant-loop decreases-loop
 returns c =
@@ -31,7 +31,7 @@ returns c =
     let at-end = at-then.before in
     let inv = at-end.before.loop.invariant in
     goes_end
-    (goes_on inv 1 (omega (arith, at-then.if1.true)) at-end.before.before.before.before.before.before.requires.1.1 at_one.seal-one.ensures at_one.seal-one.auto.1.1.1.1.0 c.before.out2.given.1 (sum-in inv 1))
+    (goes_on inv 1 (omega (arith, at-then.if1.true)) at-end.before.before.before.before.before.before.requires.1.1 at_one.seal_one.ensures at_one.seal_one.auto.1.1.1.1.0 c.before.out2.given.1 (sum_in inv 1))
     at-end.loop-test.false
 
 pub full-blocks-spec : {M : Type 1} → statement M
@@ -41,7 +41,7 @@ full-blocks-spec =
     invariant-loop
     decreases-loop
     (λ c κs. search rules)
-    (λ c. going-none _ (c.read.ensures ∙ sum-none _))
+    (λ c. going_none _ (c.read.ensures ∙ sum-none _))
     (λ c. search rules)
     (λ c. search rules)
     (λ c. search rules)

@@ -5,7 +5,7 @@ use lib.ListN.{length}
 use borrow.Author.Rules.{rules}
 use Rattle.octets.specs.Xor.{xors}
 use Rattle.fips197.specs.Cipher.{cipher}
-use Rattle.cba_steps.specs.Halves.{halvesOf}
+use Rattle.cba_steps.specs.Halves.{halves_of}
 use Rattle.cba_sealing.specs.Calls.{through, summed}
 use Rattle.cba_sealing.proofs.BlockLaws.{passed-one}
 use Rattle.cba_sealing.proofs.blocks.seal_one.Statement.{statement}
@@ -22,7 +22,7 @@ returns c =
     let a = at_words.before.before.before.before.before.before.before.args in
     let E = cipher a.key.now in
     let size : length at-write.write.result ≡ 16 = search rules in
-    passed-one E _ (halvesOf a.s.offset) a.message.now a.out.now _ _ _ next (c.xor-words.ensures ∙ ap (xors _) block)
+    passed-one E _ (halves_of a.s.offset) a.message.now a.out.now _ _ _ next (c.xor_words.ensures ∙ ap (xors _) block)
     (at-write.write.ensures ∙ at-write.before.sealed-block.ensures ∙ ap₂ (through E) next block) size at-put.put.ensures
 
 pub seal-one-spec : {M : Type 1} → statement M

@@ -5,7 +5,7 @@ use borrow.Author.Rules.{rules}
 use Rattle.octets.specs.Xor.{xors}
 use Rattle.octets.proofs.Xor.{xors-assoc}
 use Rattle.fips197.specs.Cipher.{cipher}
-use Rattle.cba_steps.specs.Halves.{halvesOf}
+use Rattle.cba_steps.specs.Halves.{halves_of}
 use Rattle.cba_mode.specs.Offsets.{F}
 use Rattle.cba_sealing.specs.Calls.{through, summed}
 use Rattle.cba_sealing.proofs.BlockLaws.{passed-two}
@@ -25,8 +25,8 @@ returns c =
     let a = at_next.before.before.before.before.before.before.before.args in
     let E = cipher a.key.now in
     let s = at-put.before.sealed-pair.ensures in
-    passed-two E _ (halvesOf a.s.offset) a.message.now a.out.now _ _ _ _ next2
-    (c.xor-words2.ensures ∙ ap (xors _) c.before.xor-words.ensures ∙ sym (xors-assoc _ _ _) ∙ ap₂ xors (ap (xors _) block) block2)
+    passed-two E _ (halves_of a.s.offset) a.message.now a.out.now _ _ _ _ next2
+    (c.xor-words2.ensures ∙ ap (xors _) c.before.xor_words.ensures ∙ sym (xors-assoc _ _ _) ∙ ap₂ xors (ap (xors _) block) block2)
     (s.first ∙ ap₂ (through E) next block) (s.second ∙ ap₂ (through E) next2 block2) refl at-put.put-pair.ensures
 
 pub seal-two-spec : {M : Type 1} → statement M

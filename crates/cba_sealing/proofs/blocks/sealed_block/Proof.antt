@@ -11,7 +11,7 @@ returns : tie.Need-returns
 returns c =
     let at-encrypt = c.before.before in
     let at-xor = at-encrypt.before.before in
-    through-block (cipher _) _ _ at-xor.before.words.ensures (at-encrypt.before.write.ensures ∙ at-xor.xor-words.ensures) (c.before.read.ensures ∙ at-encrypt.encrypt.ensures) c.xor-words2.ensures
+    through-block (cipher _) _ _ at-xor.before.words.ensures (at-encrypt.before.write.ensures ∙ at-xor.xor_words.ensures) (c.before.read.ensures ∙ at-encrypt.encrypt.ensures) c.xor-words2.ensures
 
 pub sealed-block-spec : {M : Type 1} → statement M
 sealed-block-spec =

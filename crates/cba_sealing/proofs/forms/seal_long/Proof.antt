@@ -6,7 +6,7 @@ use native.Mathlib.Omega.{arith}
 use lib.ListN.{length, length-take}
 use Rattle.octets.proofs.Parts.{rest-size}
 use Rattle.fips197.specs.Cipher.{cipher}
-use Rattle.cba_sealing.specs.Calls.{dataTag}
+use Rattle.cba_sealing.specs.Calls.{data_tag}
 use Rattle.cba_sealing.proofs.PieceLaws.{take-size, tag_fits}
 use Rattle.cba_sealing.proofs.BeginLaws.{written-tag}
 use Rattle.cba_sealing.proofs.SealForms.{tag-size, long-turn}
@@ -15,18 +15,18 @@ use Rattle.cba_sealing.proofs.forms.seal_long.Statement.{statement}
 use Rattle.cba_sealing.proofs.forms.seal_long.Tie as tie
 
 -- M_0 is there
-first-there : (c : tie.After-first-bytes) → c.first-bytes.result ≤ length c.before.before.before.before.before.args.message.now
-first-there c = omega (arith, c.first-bytes.ensures, c.before.before.before.before.before.requires.1.1)
+first_there : (c : tie.After-first-bytes) → c.first-bytes.result ≤ length c.before.before.before.before.before.args.message.now
+first_there c = omega (arith, c.first-bytes.ensures, c.before.before.before.before.before.requires.1.1)
 
 out-there : (c : tie.After-cover) → c.before.before.before.before.before.first-bytes.result ≤ length c.cover.new.1.1.1.1.1.1.0
-out-there c = omega (arith, first-there c.before.before.before.before.before, c.cover.auto.1.1.1.1.1.1.0, c.before.before.before.before.before.before.before.before.before.before.requires.1.0.room)
+out-there c = omega (arith, first_there c.before.before.before.before.before, c.cover.auto.1.1.1.1.1.1.0, c.before.before.before.before.before.before.before.before.before.before.requires.1.0.room)
 
 cover-requires : tie.Need-cover-requires
 cover-requires c κs =
     let p = c.before.before.before.before.before.before.before.before.before.requires in
     let g = p.1.0.given in
     let l = c.before.before.before.before.first-bytes.ensures in
-    let s = take-size c.before.before.before.before.first-bytes.result c.before.before.before.before.before.before.before.before.before.args.message.now (first-there c.before.before.before.before) in
+    let s = take-size c.before.before.before.before.first-bytes.result c.before.before.before.before.before.before.before.before.before.args.message.now (first_there c.before.before.before.before) in
     (p.0, (g, (omega (arith, g.fits.2), omega (arith, p.1.1, p.1.0.room))))
 
 tail-requires : tie.Need-tail-requires
@@ -36,7 +36,7 @@ tail-requires c κs =
     let t = c.before.before.before.before.before.before.before.before.before.before.before.before.before.before.tag-bytes.ensures in
     let s = tag-size c.before.before.before.before.full-tag.result c.before.before.before.before.before.before.before.before.before.before.before.before.before.before.tag-bytes.result c.before.before.before.before.full-tag.type-inv.1.0.1 (rw t f) in
     let kept = c.before.before.before.before.before.before.before.before.before.before.cover.auto.1.1.1.1.1.1.0 in
-    (p.0, (rw (s, rest-size c.before.before.before.before.before.before.before.before.before.before.before.before.before.before.before.before.before.before.before.before.args.message.now) c.before.before.before.before.before.before.before.before.before.before.before.before.before.Ending-of.ensures.ends, (rw (s, t) f, rw (s, rest-size c.before.before.before.before.before.before.before.before.before.before.before.before.before.before.before.before.before.before.before.before.args.message.now, rest-size _) (omega (arith, t, kept, first-there c.before.before.before.before.before.before.before.before.before.before.before.before.before.before.before, p.1.0.room)))))
+    (p.0, (rw (s, rest-size c.before.before.before.before.before.before.before.before.before.before.before.before.before.before.before.before.before.before.before.before.args.message.now) c.before.before.before.before.before.before.before.before.before.before.before.before.before.Ending-of.ensures.ends, (rw (s, t) f, rw (s, rest-size c.before.before.before.before.before.before.before.before.before.before.before.before.before.before.before.before.before.before.before.before.args.message.now, rest-size _) (omega (arith, t, kept, first_there c.before.before.before.before.before.before.before.before.before.before.before.before.before.before.before, p.1.0.room)))))
 
 returns : tie.Need-returns
 returns c =
@@ -47,13 +47,13 @@ returns c =
     let l = c.before.before.before.before.before.before.before.before.before.before.before.before.before.before.before.before.before.before.first-bytes.ensures in
     let b = at-cover.cover.ensures in
     let kept = at-cover.cover.auto.1.1.1.1.1.1.0 in
-    let there = first-there c.before.before.before.before.before.before.before.before.before.before.before.before.before.before.before.before.before.before in
+    let there = first_there c.before.before.before.before.before.before.before.before.before.before.before.before.before.before.before.before.before.before in
     let s = take-size c.before.before.before.before.before.before.before.before.before.before.before.before.before.before.before.before.before.before.first-bytes.result a.message.now there in
     let f = tag_fits p.0.given.fits.0 in
     let T =
-    written-tag (cipher a.key.now) a.p.tau a.p.capacity a.nonce.now (dataTag a.p a.sum) _ a.out.now _ _ c.before.before.before.before.before.before.before.full-tag.result b.written kept (omega (arith, p.0.room))
-    b.data_is b.data-size (omega arith) f (rw (sym s) at c.before.before.before.before.before.before.before.full-tag.ensures) in
-    long-turn (cipher a.key.now) a.p.tau a.p.capacity a.nonce.now (dataTag a.p a.sum) c.before.before.tail.new.1.1.1.1.1.1.0
+    written-tag (cipher a.key.now) a.p.tau a.p.capacity a.nonce.now (data_tag a.p a.sum) _ a.out.now _ _ c.before.before.before.before.before.before.before.full-tag.result b.written kept (omega (arith, p.0.room))
+    b.data_is b.data_size (omega arith) f (rw (sym s) at c.before.before.before.before.before.before.before.full-tag.ensures) in
+    long-turn (cipher a.key.now) a.p.tau a.p.capacity a.nonce.now (data_tag a.p a.sum) c.before.before.tail.new.1.1.1.1.1.1.0
     (record {
       bits = l;
       tags = c.before.before.before.before.before.before.before.before.before.before.before.before.before.before.before.before.before.tag-bytes.ensures;
@@ -79,10 +79,10 @@ seal-long-spec =
     (λ c κs. search rules)
     (λ c κs. search rules)
     (λ c κs. (omega (arith, c.before.first-bytes.ensures, c.before.before.before.before.before.before.requires.1.1), rw c.tag-bytes.ensures (tag_fits c.before.before.before.before.before.before.requires.1.0.given.fits.0)))
-    (λ c. sym (take-size _ _ (first-there c.before.before.before)))
+    (λ c. sym (take-size _ _ (first_there c.before.before.before)))
     cover-requires
     (λ c. search rules)
-    (λ c. simp length-take (omega (arith, c.before.before.before.before.before.cover.auto.1.1.1.1.1.1.0, first-there c.before.before.before.before.before.before.before.before.before.before, c.before.before.before.before.before.before.before.before.before.before.before.before.before.before.before.requires.1.0.room)))
+    (λ c. simp length-take (omega (arith, c.before.before.before.before.before.cover.auto.1.1.1.1.1.1.0, first_there c.before.before.before.before.before.before.before.before.before.before, c.before.before.before.before.before.before.before.before.before.before.before.before.before.before.before.requires.1.0.room)))
     (λ c κs. simp length-take (omega (arith, c.before.before.before.before.before.before.before.before.before.before.first-bytes.ensures, c.before.before.before.before.before.before.before.before.before.before.before.before.before.before.before.requires.1.0.given.fits.2)))
     (λ c. omega (arith, c.before.before.before.before.before.before.before.before.before.before.tag-bytes.ensures, c.before.before.before.before.before.before.before.before.before.before.before.before.before.before.before.before.requires.1.0.given.fits.0))
     (λ c. search rules)

@@ -4,8 +4,8 @@ use mathlib.Core.Path.{sym}
 use native.Mathlib.Omega.{arith}
 use lib.ListN.{length-take, length-drop}
 use Rattle.fips197.specs.Cipher.{cipher}
-use Rattle.cba_sealing.specs.Calls.{dataTag}
-use Rattle.cba_sealing.proofs.PieceLaws.{tag_fits, tag-taken}
+use Rattle.cba_sealing.specs.Calls.{data_tag}
+use Rattle.cba_sealing.proofs.PieceLaws.{tag_fits, tag_taken}
 use Rattle.cba_sealing.proofs.SealForms.{short-turn}
 use borrow.Author.Rules.{rules}
 use Rattle.cba_sealing.proofs.forms.seal_short.Statement.{statement}
@@ -21,7 +21,7 @@ slice-aggregate-short-tag : tie.Need-slice-aggregate-short-tag
 slice-aggregate-short-tag c = simp length-take (omega (arith, c.before.before.before.before.before.cover.auto.1.1.1.1.1.1.0, c.before.before.before.before.before.before.before.before.before.before.before.requires.1.0.room))
 
 slice-aggregate-put : tie.Need-slice-aggregate-put
-slice-aggregate-put c = rw c.before.tag-bytes.ensures (sym (tag-taken _ _ c.before.before.before.before.before.before.before.before.before.before.before.before.before.before.before.requires.1.0.given.fits.0 c.before.before.before.short-tag.type-inv.1.0.1))
+slice-aggregate-put c = rw c.before.tag-bytes.ensures (sym (tag_taken _ _ c.before.before.before.before.before.before.before.before.before.before.before.before.before.before.before.requires.1.0.given.fits.0 c.before.before.before.short-tag.type-inv.1.0.1))
 
 put-requires : tie.Need-put-requires
 put-requires c κs =
@@ -34,7 +34,7 @@ returns c =
     let a = at-start.args in
     let p = at-start.requires.1 in
     let b = at-cover.cover.ensures in
-    short-turn (cipher a.key.now) a.p.tau a.p.capacity a.nonce.now (dataTag a.p a.sum) a.message.now a.out.now _ _ _ c.before.before.before.before.before.before.short-tag.result c.before.before.put.new.0 p.1
+    short-turn (cipher a.key.now) a.p.tau a.p.capacity a.nonce.now (data_tag a.p a.sum) a.message.now a.out.now _ _ _ c.before.before.before.before.before.before.short-tag.result c.before.before.put.new.0 p.1
     b.written at-cover.cover.auto.1.1.1.1.1.1.0 p.0.room (tag_fits p.0.given.fits.0) b.data_is b.offset-is c.before.before.before.before.before.before.short-tag.ensures c.before.before.before.before.before.before.short-tag.type-inv.1.0.1
     (rw c.before.before.before.before.tag-bytes.ensures at c.before.before.put.ensures) c.before.before.put.auto.0
 

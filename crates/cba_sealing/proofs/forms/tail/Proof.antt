@@ -3,9 +3,9 @@
 use native.Mathlib.Omega.{arith}
 use lib.ListN.{length-take, length-drop}
 use Rattle.fips197.specs.Cipher.{cipher}
-use Rattle.cba_sealing.specs.Calls.{tailAs}
-use Rattle.cba_steps.specs.Halves.{halvesOf}
-use Rattle.cba_sealing.proofs.TailLaws.{joined-tail-turn, separate-tail-turn}
+use Rattle.cba_sealing.specs.Calls.{tail_as}
+use Rattle.cba_steps.specs.Halves.{halves_of}
+use Rattle.cba_sealing.proofs.TailLaws.{joined-tail-turn, separate_tail-turn}
 use borrow.Author.Rules.{rules}
 use Rattle.cba_sealing.proofs.forms.tail.Statement.{statement}
 use Rattle.cba_sealing.proofs.forms.tail.Tie as tie
@@ -18,7 +18,7 @@ joined-end-requires c κs =
     (p.0, (simp (length-take, length-drop) (omega arith), (simp (length-take, length-drop) (omega arith), simp (length-take, length-drop) (omega (arith, p.1.1.1)))))
 
 returns : tie.Need-returns
-unfolding tailAs
+unfolding tail_as
 returns c =
     let at-full = c.before.before.before.before.before.before.before.before in
     let at-start = at-full.before.before.before.before.before.before in
@@ -28,7 +28,7 @@ returns c =
     let h = rw j at p.0.closes in
     let done = at-full.full-blocks.ensures in
     rw j
-    (joined-tail-turn (cipher a.key.now) (halvesOf a.offset) a.tag.now a.message.now a.out.now _ c.before.before.joined-end.new.1.1.1.1.1.0 _ _ a.e.blocks
+    (joined-tail-turn (cipher a.key.now) (halves_of a.offset) a.tag.now a.message.now a.out.now _ c.before.before.joined-end.new.1.1.1.1.1.0 _ _ a.e.blocks
     h.0 (omega arith) p.1.1 at-full.full-blocks.auto.1.1.1.1.1.0 done.offset-is done.sum_is done.written c.before.before.joined-end.ensures c.before.before.joined-end.auto.1.1.1.1.1.0)
 
 separate-end-requires : tie.Need-separate-end-requires
@@ -39,7 +39,7 @@ separate-end-requires c κs =
     (p.0, (p.1.1.0, (simp (length-take, length-drop) (omega arith), simp (length-take, length-drop) (omega (arith, p.1.0.within, p.1.1.1)))))
 
 returns-2 : tie.Need-returns-2
-unfolding tailAs
+unfolding tail_as
 returns-2 c =
     let at-full = c.before.before.before.before.before.before.before.before in
     let at-start = at-full.before.before.before.before.before.before in
@@ -49,7 +49,7 @@ returns-2 c =
     let h = rw j at p.0.closes in
     let done = at-full.full-blocks.ensures in
     rw j
-    (separate-tail-turn (cipher a.key.now) (halvesOf a.offset) a.tag.now a.message.now a.out.now _ c.before.before.separate-end.new.1.1.1.1.1.0 _ _ a.e.blocks
+    (separate_tail-turn (cipher a.key.now) (halves_of a.offset) a.tag.now a.message.now a.out.now _ c.before.before.separate-end.new.1.1.1.1.1.0 _ _ a.e.blocks
     p.0.within h p.1.1 at-full.full-blocks.auto.1.1.1.1.1.0 done.offset-is done.sum_is done.written c.before.before.separate-end.ensures c.before.before.separate-end.auto.1.1.1.1.1.0)
 
 pub tail-spec : {M : Type 1} → statement M

@@ -5,8 +5,8 @@ use native.Mathlib.Omega.{arith}
 use lib.ListN.{length, length-take, length-drop}
 use Rattle.fips197.specs.Cipher.{cipher}
 use Rattle.aes_schedule.specs.Words.{block_of}
-use Rattle.cba_steps.specs.Halves.{halvesOf}
-use Rattle.cba_sealing.proofs.TailLaws.{joined-end-turn}
+use Rattle.cba_steps.specs.Halves.{halves_of}
+use Rattle.cba_sealing.proofs.TailLaws.{joined_end_turn}
 use borrow.Author.Rules.{rules}
 use Rattle.cba_sealing.proofs.joined.joined_end.Statement.{statement}
 use Rattle.cba_sealing.proofs.joined.joined_end.Tie as tie
@@ -29,7 +29,7 @@ returns c =
     let a = at_block.before.before.before.before.before.before.before.before.before.before.args in
     let h = at_block.before.before.before.before.before.before.before.before.before.before.requires.1 in
     let at_first = at_block.before.before.before in
-    joined-end-turn (cipher a.key.now) (halvesOf a.s.offset) (block_of a.s.sum) _ _ _ a.rest.now a.tag.now a.out.now at_block.joined-block.new.1.1.1.1.1.1.0
+    joined_end_turn (cipher a.key.now) (halves_of a.s.offset) (block_of a.s.sum) _ _ _ a.rest.now a.tag.now a.out.now at_block.joined-block.new.1.1.1.1.1.1.0
     c.before.before.before.before.before.joined-last.result c.before.before.put.new.0 at_first.before.doubled.ensures at_first.First-Block.ensures (rw c.before.before.before.before.before.before.before.before.write.ensures at c.before.before.before.before.before.before.before.xor_block.ensures) h.0 h.1.1
     at_block.joined-block.ensures at_block.joined-block.auto.1.1.1.1.1.1.0 c.before.before.before.before.before.joined-last.ensures c.before.before.before.before.before.joined-last.type-inv.1.0.1 c.before.before.put.ensures c.before.before.put.auto.0
 

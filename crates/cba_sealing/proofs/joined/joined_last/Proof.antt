@@ -3,7 +3,7 @@
 use mathlib.Core.Path.{ap, ap₂, ◌∙◌}
 use Rattle.octets.specs.Xor.{xors}
 use Rattle.fips197.specs.Cipher.{cipher}
-use Rattle.cba_mode.specs.Seal.{joinedLast}
+use Rattle.cba_mode.specs.Seal.{joined_last}
 use borrow.Author.Rules.{rules}
 use Rattle.cba_sealing.proofs.joined.joined_last.Statement.{statement}
 use Rattle.cba_sealing.proofs.joined.joined_last.Tie as tie
@@ -14,7 +14,7 @@ encrypt-requires c κs =
     p
 
 returns : tie.Need-returns
-unfolding joinedLast
+unfolding joined_last
 returns c =
     let at-step = c.before.before.before in
     c.xor-block2.ensures

@@ -7,7 +7,7 @@ use lib.Bits.{bit_xor}
 use lib.ListN.{length, get_or, drop}
 use native.Mathlib.Omega.{arith}
 use borrow.Author.Rules.{rules}
-use Rattle.octets.proofs.Strings.{Filled, fill_none, fill-turn, filled}
+use Rattle.octets.proofs.Strings.{Filled, fill_none, fill_turn, filled}
 use Rattle.octets.proofs.Xor.{xors-part}
 use Rattle.cba_sealing.proofs.pieces.mask.Statement.{statement}
 use Rattle.cba_sealing.proofs.pieces.mask.Tie as tie
@@ -39,6 +39,6 @@ mask-spec =
     (λ c. search rules)
     (λ c. search rules)
     (λ c. search rules)
-    (λ c. fill-turn c.before.before.loop.invariant c.before.loop-test.true)
+    (λ c. fill_turn c.before.before.loop.invariant c.before.loop-test.true)
     (λ c. search rules)
     returns)

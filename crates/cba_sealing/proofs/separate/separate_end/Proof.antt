@@ -4,8 +4,8 @@ use native.Mathlib.Omega.{arith}
 use lib.ListN.{length-take, length-drop}
 use Rattle.fips197.specs.Cipher.{cipher}
 use Rattle.aes_schedule.specs.Words.{block_of}
-use Rattle.cba_steps.specs.Halves.{halvesOf}
-use Rattle.cba_sealing.proofs.TailLaws.{separate-end-turn}
+use Rattle.cba_steps.specs.Halves.{halves_of}
+use Rattle.cba_sealing.proofs.TailLaws.{separate_end_turn}
 use borrow.Author.Rules.{rules}
 use Rattle.cba_sealing.proofs.separate.separate_end.Statement.{statement}
 use Rattle.cba_sealing.proofs.separate.separate_end.Tie as tie
@@ -28,7 +28,7 @@ returns c =
     let a = at-start.args in
     let p = at-start.requires.1 in
     let at_tag = c.before.before.before.before.before in
-    separate-end-turn (cipher a.key.now) (halvesOf a.s.offset) (block_of a.s.sum) a.tag.now a.last.now a.out.now _ at_tag.tag-block.result c.before.before.put.new.0 p.0 p.1.1 at_last.last_block.ensures at_last.last_block.auto.1.1.1.1.1.0 (rw at_tag.before.write.ensures at at_tag.tag-block.ensures) at_tag.tag-block.type-inv.1.0.1 c.before.before.put.ensures c.before.before.put.auto.0
+    separate_end_turn (cipher a.key.now) (halves_of a.s.offset) (block_of a.s.sum) a.tag.now a.last.now a.out.now _ at_tag.tag-block.result c.before.before.put.new.0 p.0 p.1.1 at_last.last_block.ensures at_last.last_block.auto.1.1.1.1.1.0 (rw at_tag.before.write.ensures at at_tag.tag-block.ensures) at_tag.tag-block.type-inv.1.0.1 c.before.before.put.ensures c.before.before.put.auto.0
 
 pub separate-end-spec : {M : Type 1} → statement M
 separate-end-spec = tie.close (tie.spec last-block-requires (λ c κs. search rules) (λ c κs. search rules) (λ c. search rules) (λ c. search rules) (λ c. search rules) (λ c. search rules) slice-aggregate-put put-requires (λ c. search rules) returns)

@@ -11,9 +11,9 @@ use borrow.Fn.Kinds.{In}
 use borrow.Fn.PlainCycle.{Measures, is, falls, and}
 use Rattle.octets.specs.Xor.{xors}
 use Rattle.fips197.specs.Cipher.{cipher}
-use Rattle.cba_steps.specs.Halves.{halvesOf}
+use Rattle.cba_steps.specs.Halves.{halves_of}
 use Rattle.cba_steps.specs.Walk.{depth}
-use Rattle.cba_steps.proofs.DataLaws.{dataSum-rest, walk_turn}
+use Rattle.cba_steps.proofs.DataLaws.{data_sum-rest, walk_turn}
 use Rattle.cba_steps.proofs.associated.walk.Reads as walk
 use Rattle.cba_steps.proofs.associated.walk.Kinds as walk-kinds
 use Rattle.cba_steps.proofs.associated.+walk.Lts-walk as walk-lts
@@ -55,7 +55,7 @@ pub +walk-spec : {M : Type 1} → statement M
     (λ c.
     let at = c.before in
     let a = at.before.before.before.args in
-    c.with_rest.ensures ∙ dataSum-rest (cipher a.key.now) a.sum (halvesOf (record { a = a.a; b = a.b })) a.rest.now at.if1.true)
+    c.with_rest.ensures ∙ data_sum-rest (cipher a.key.now) a.sum (halves_of (record { a = a.a; b = a.b })) a.rest.now at.if1.true)
     (λ c κs. search rules)
     (λ c κs. search rules)
     (λ c κs. search rules)
@@ -71,6 +71,6 @@ pub +walk-spec : {M : Type 1} → statement M
     let at_first = at_Added.before.before in
     let at-doubled = at_first.before in
     let a = at-doubled.before.before.before.before.args in
-    walk_turn (cipher a.key.now) a.sum (halvesOf (record { a = a.a; b = a.b })) a.rest.now _ (halvesOf at-doubled.doubled.result) _ _ at-doubled.before.if1.false at-doubled.doubled.ensures at_first.First-Block.ensures
+    walk_turn (cipher a.key.now) a.sum (halves_of (record { a = a.a; b = a.b })) a.rest.now _ (halves_of at-doubled.doubled.result) _ _ at-doubled.before.if1.false at-doubled.doubled.ensures at_first.First-Block.ensures
     (at_Added.added.ensures ∙ ap (λ (x : List ℕ). xors a.sum (cipher a.key.now (xors at_first.First-Block.result x))) at_Added.before.whole.ensures)
     c.walk.ensures)

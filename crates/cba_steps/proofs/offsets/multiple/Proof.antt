@@ -3,7 +3,7 @@
 use mathlib.Core.Path.{sym, ap, ◌∙◌}
 use borrow.Author.Rules.{rules}
 use Rattle.cba_mode.specs.Offsets.{two, three, four, five, six, times}
-use Rattle.cba_mode.proofs.OffsetLaws.{times-at, times-other}
+use Rattle.cba_mode.proofs.OffsetLaws.{times-at, times_other}
 use Rattle.cba_steps.proofs.offsets.multiple.Statement.{statement}
 use Rattle.cba_steps.proofs.offsets.multiple.Tie as tie
 
@@ -29,7 +29,7 @@ returns-5 c = c.triple4.ensures ∙ ap three c.before.double4.ensures ∙ sym (t
 
 returns-6 : tie.Need-returns-6
 returns-6 c =
-    times-other _ _ c.before.before.before.before.if1.false c.before.before.before.if2.false c.before.before.if3.false c.before.if4.false c.if5.false
+    times_other _ _ c.before.before.before.before.if1.false c.before.before.before.if2.false c.before.before.if3.false c.before.if4.false c.if5.false
 
 pub multiple-spec : {M : Type 1} → statement M
 multiple-spec =

@@ -5,7 +5,7 @@ use mathlib.Core.List.{◌++◌, ◌∷◌}
 use Prim.Native.Nat.{◌-◌}
 use lib.ListN.{get_or, replicate}
 use borrow.Author.Rules.{rules}
-use Rattle.octets.proofs.Strings.{Filled, fill_none, fill-value, filled-whole}
+use Rattle.octets.proofs.Strings.{Filled, fill_none, fill_value, filled-whole}
 use Rattle.cba_steps.proofs.StartLaws.{pad-table}
 use Rattle.cba_steps.proofs.offsets.pad.Statement.{statement}
 use Rattle.cba_steps.proofs.offsets.pad.Tie as tie
@@ -27,5 +27,5 @@ pad-spec =
     (λ c. search rules)
     (λ c. search rules)
     (λ c. search rules)
-    (λ c. fill-value c.before.before.loop.invariant c.before.loop-test.true c.padded-byte.ensures)
+    (λ c. fill_value c.before.before.loop.invariant c.before.loop-test.true c.padded-byte.ensures)
     (λ c. filled-whole c.before.loop.invariant c.loop-test.false refl ∙ pad-table c.before.before.before.args.s.now))

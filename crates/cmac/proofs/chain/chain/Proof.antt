@@ -3,7 +3,7 @@
 use Prim.Native.Nat.{◌-◌}
 use borrow.Author.Rules.{rules}
 use Rattle.fips197.specs.Cipher.{cipher}
-use Rattle.cmac.proofs.ChainLaws.{Chained, chained-none, chained-turn, chained-all}
+use Rattle.cmac.proofs.ChainLaws.{Chained, chained_none, chained_turn, chained_all}
 use Rattle.cmac.proofs.chain.chain.Statement.{statement}
 use Rattle.cmac.proofs.chain.chain.Tie as tie
 
@@ -18,7 +18,7 @@ again c =
     let at-xor = c.before in
     let at_first = at-xor.before in
     let at_test = at_first.before.before in
-    chained-turn _ _ _ _ _ _ at_test.before.loop.invariant at_test.loop-test.true at_first.First-Block.ensures at-xor.xor_block.ensures c.encrypt.ensures
+    chained_turn _ _ _ _ _ _ at_test.before.loop.invariant at_test.loop-test.true at_first.First-Block.ensures at-xor.xor_block.ensures c.encrypt.ensures
 
 pub chain-spec : {M : Type 1} → statement M
 chain-spec =
@@ -26,7 +26,7 @@ chain-spec =
     (tie.spec
     invariant-loop
     decreases-loop
-    (λ c. chained-none _ _ _)
+    (λ c. chained_none _ _ _)
     (λ c. search rules)
     (λ c. search rules)
     (λ c. search rules)
@@ -37,4 +37,4 @@ chain-spec =
     (λ c. search rules)
     (λ c. search rules)
     again
-    (λ c. chained-all _ _ _ c.before.loop.invariant c.loop-test.false))
+    (λ c. chained_all _ _ _ c.before.loop.invariant c.loop-test.false))

@@ -5,7 +5,7 @@ use mathlib.Core.Bool.{true}
 use borrow.Author.Rules.{rules}
 use Rattle.answers.proofs.RowLaws.{not-false, not-true}
 use Rattle.fips197.specs.Schedule.{is_key}
-use Rattle.cmac.proofs.AnswerLaws.{no_key, long-log, short-mark, long-mark, good-mark}
+use Rattle.cmac.proofs.AnswerLaws.{no_key, long_log, short-mark, long-mark, good-mark}
 use Rattle.cmac.proofs.marks.checks.Statement.{statement}
 use Rattle.cmac.proofs.marks.checks.Tie as tie
 
@@ -19,7 +19,7 @@ is-key : (c : tie.Else1) → is_key c.before.before.before.args.key.now ≡ true
 is-key c = sym c.before.is-key.ensures ∙ not-false _ c.if1.false
 
 returns-2 : tie.Need-returns-2
-returns-2 c = long-log _ _ c.before.before.before.before.args.mark (is-key c.before) c.if2.true
+returns-2 c = long_log _ _ c.before.before.before.before.args.mark (is-key c.before) c.if2.true
 
 returns-3 : tie.Need-returns-3
 returns-3 c = short-mark _ _ _ (is-key c.before.before) c.before.if2.false c.if3.true

@@ -6,19 +6,19 @@ use lib.ListN.{length, length-take}
 use borrow.Author.Rules.{rules}
 use Rattle.cmac_rules.specs.Theorems.{Given}
 use Rattle.cmac_rules.proofs.MarkLaws.{answered-given}
-use Rattle.cmac.proofs.AnswerLaws.{make-refused, make-no-room, made}
+use Rattle.cmac.proofs.AnswerLaws.{make_refused, make_no-room, made}
 use Rattle.cmac.proofs.marks.make.Statement.{statement}
 use Rattle.cmac.proofs.marks.make.Tie as tie
 
 returns : tie.Need-returns
 returns c =
     let a = c.before.before.before.before.before.args in
-    make-refused a.key.now a.log.now a.n a.out.now c.before.checks.ensures c.if1.true
+    make_refused a.key.now a.log.now a.n a.out.now c.before.checks.ensures c.if1.true
 
 returns-2 : tie.Need-returns-2
 returns-2 c =
     let a = c.before.before.before.before.before.before.args in
-    make-no-room a.key.now a.log.now a.n a.out.now c.before.before.checks.ensures c.before.if1.false c.if2.true
+    make_no-room a.key.now a.log.now a.n a.out.now c.before.before.checks.ensures c.before.if1.false c.if2.true
 
 -- what the checks let pass
 passed : (c : tie.Else2) → let a = c.before.before.before.before.before.before.args in Given a.key.now (length a.log.now) a.n

@@ -3,14 +3,14 @@
 use mathlib.Core.Path.{ap, ◌∙◌}
 use borrow.Author.Rules.{rules}
 use Rattle.cmac_rules.specs.Cmac.{double}
-use Rattle.cmac.proofs.SubkeyLaws.{upper_fits, double-halves}
+use Rattle.cmac.proofs.SubkeyLaws.{upper_fits, double_halves}
 use Rattle.cmac.proofs.subkeys.double.Statement.{statement}
 use Rattle.cmac.proofs.subkeys.double.Tie as tie
 
 returns : tie.Need-returns
 returns c =
     let h = c.before.split.result in
-    c.whole.ensures ∙ double-halves h.a h.b (search rules) (search rules) ∙ ap double c.before.split.ensures
+    c.whole.ensures ∙ double_halves h.a h.b (search rules) (search rules) ∙ ap double c.before.split.ensures
 
 pub double-spec : {M : Type 1} → statement M
 double-spec =

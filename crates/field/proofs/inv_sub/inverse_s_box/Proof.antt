@@ -2,13 +2,13 @@
 -- Assumes nothing.
 use mathlib.Core.Path.{refl}
 use Rattle.octets.specs.Strings.{table}
-use Rattle.field.specs.Field.{xtime, mulBits, mul, squares, inverse}
-use Rattle.field.specs.SBox.{bits_of, invAffine, invSBox}
+use Rattle.field.specs.Field.{xtime, mul_bits, mul, squares, inverse}
+use Rattle.field.specs.SBox.{bits_of, inv_affine, inv_s_box}
 use Rattle.field.proofs.inv_sub.inverse_s_box.Statement.{statement}
 use Rattle.field.proofs.inv_sub.inverse_s_box.Tie as tie
 
 returns : tie.Need-returns
-unfolding table xtime mulBits mul squares inverse bits_of invAffine invSBox
+unfolding table xtime mul_bits mul squares inverse bits_of inv_affine inv_s_box
 returns c = refl
 
 pub inverse-s-box-spec : {M : Type 1} → statement M

@@ -2,13 +2,13 @@
 -- Assumes nothing.
 use mathlib.Core.Path.{refl}
 use Rattle.octets.specs.Strings.{table}
-use Rattle.field.specs.Field.{xtime, mulBits, mul, squares, inverse}
-use Rattle.field.specs.SBox.{bits_of, affine, sBox}
+use Rattle.field.specs.Field.{xtime, mul_bits, mul, squares, inverse}
+use Rattle.field.specs.SBox.{bits_of, affine, s_box}
 use Rattle.field.proofs.sub.s_box.Statement.{statement}
 use Rattle.field.proofs.sub.s_box.Tie as tie
 
 returns : tie.Need-returns
-unfolding table xtime mulBits mul squares inverse bits_of affine sBox
+unfolding table xtime mul_bits mul squares inverse bits_of affine s_box
 returns c = refl
 
 pub s-box-spec : {M : Type 1} → statement M

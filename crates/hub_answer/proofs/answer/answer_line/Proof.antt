@@ -8,13 +8,13 @@ use Rattle.hub_rules.proofs.AnswerLaws.{answer-most}
 use Rattle.hub_answer.proofs.AnswerLaws.{answered}
 use Rattle.hub_answer.proofs.answer.answer_line.Statement.{statement}
 use Rattle.hub_answer.proofs.answer.answer_line.Tie as tie
-use Rattle.hub_answer.specs.Replies.{resultRoom}
+use Rattle.hub_answer.specs.Replies.{result_room}
 
 put-line-requires : tie.Need-put-line-requires
 put-line-requires c κs =
     let reply = c.before.before.before.reply-to in
     let m = answer-most c.before.before.before.before.before.before.before.args.line.now in
-    let l : length reply.new.1.0 ≡ resultRoom = search rules in
+    let l : length reply.new.1.0 ≡ result_room = search rules in
     let t = length-take reply.result.size reply.new.1.0 in
     search (rules, m, t)
 

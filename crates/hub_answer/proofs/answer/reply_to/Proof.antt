@@ -5,15 +5,15 @@ use borrow.Author.Rules.{rules}
 use borrow.Author.Tests.{not-true, not-false}
 use lib.ListN.{length}
 use Rattle.hub_grammar.proofs.Grammar.{parse-long}
-use Rattle.hub_answer.proofs.AnswerLaws.{reply-malformed, read-refused, read-sized, read-accepted}
+use Rattle.hub_answer.proofs.AnswerLaws.{reply_malformed, read-refused, read-sized, read-accepted}
 use Rattle.hub_answer.proofs.answer.reply_to.Statement.{statement}
 use Rattle.hub_answer.proofs.answer.reply_to.Tie as tie
 
 returns : tie.Need-returns
-returns c = reply-malformed (parse-long c.before.before.before.before.args.line.now (search rules)) c.malformed.ensures
+returns c = reply_malformed (parse-long c.before.before.before.before.args.line.now (search rules)) c.malformed.ensures
 
 returns-2 : tie.Need-returns-2
-returns-2 c = reply-malformed (c.before.before.before.before.read-line.ensures.malformed-is (not-true _ c.before.if2.true)) c.malformed2.ensures
+returns-2 c = reply_malformed (c.before.before.before.before.read-line.ensures.malformed-is (not-true _ c.before.if2.true)) c.malformed2.ensures
 
 returns-3 : tie.Need-returns-3
 returns-3 c =

@@ -3,7 +3,7 @@
 use Prim.Native.Nat.{◌-◌}
 use borrow.Author.Rules.{rules}
 use lib.ListN.{length}
-use Rattle.hub_run.proofs.ChunkLaws.{Feeding, feeding-none, feeding-turn, feeding-end, feeding-less, feeding-small, feeding-full}
+use Rattle.hub_run.proofs.ChunkLaws.{Feeding, feeding_none, feeding_turn, feeding_end, feeding_less, feeding_small, feeding_full}
 use Rattle.hub_run.proofs.chunk.feed.Statement.{statement}
 use Rattle.hub_run.proofs.chunk.feed.Tie as tie
 
@@ -19,7 +19,7 @@ feed-spec =
     (tie.spec
     invariant-loop
     decreases-loop
-    (λ c. let at = c.before.before.before in feeding-none at.args.h _ _ _ (search rules) at.requires.1)
+    (λ c. let at = c.before.before.before in feeding_none at.args.h _ _ _ (search rules) at.requires.1)
     (λ c. search rules)
     (λ c. search rules)
     (λ c. search rules)
@@ -29,12 +29,12 @@ feed-spec =
     (λ c. search rules)
     (λ c κs. search rules)
     (λ c. search rules)
-    (λ c. let m = feeding-small c.before.before.before.before.before.before.before.before.before.before.before.before.before.loop.invariant _ c.before.before.before.before.before.before.before.feed-line.ensures.written-most in search (rules, m))
-    (λ c. feeding-less c.before.before.before.before.before.before.before.before.before.before.before.before.before.loop.invariant _ _ _ _ c.before.before.before.before.before.before.before.before.before.before.before.before.loop-test.true c.before.before.before.before.before.before.before.feed-line.ensures)
-    (λ c. let f = c.before.before.before.before.before.before.before.feed-line in feeding-turn c.before.before.before.before.before.before.before.before.before.before.before.before.before.loop.invariant f.result f.new.1.0 f.new.1.1.1.0 f.auto.1.0 f.auto.1.1.1.0 c.before.before.before.before.before.before.before.before.before.before.before.before.loop-test.true c.before.before.before.before.before.before.before.before.before.before.before.if1.false f.ensures)
+    (λ c. let m = feeding_small c.before.before.before.before.before.before.before.before.before.before.before.before.before.loop.invariant _ c.before.before.before.before.before.before.before.feed-line.ensures.written-most in search (rules, m))
+    (λ c. feeding_less c.before.before.before.before.before.before.before.before.before.before.before.before.before.loop.invariant _ _ _ _ c.before.before.before.before.before.before.before.before.before.before.before.before.loop-test.true c.before.before.before.before.before.before.before.feed-line.ensures)
+    (λ c. let f = c.before.before.before.before.before.before.before.feed-line in feeding_turn c.before.before.before.before.before.before.before.before.before.before.before.before.before.loop.invariant f.result f.new.1.0 f.new.1.1.1.0 f.auto.1.0 f.auto.1.1.1.0 c.before.before.before.before.before.before.before.before.before.before.before.before.loop-test.true c.before.before.before.before.before.before.before.before.before.before.before.if1.false f.ensures)
     (λ c. search rules)
     (λ c. search rules)
-    (λ c. feeding-end c.before.loop.invariant c.loop-test.false)
+    (λ c. feeding_end c.before.loop.invariant c.loop-test.false)
     (λ c. search rules)
     (λ c. search rules)
-    (λ c. feeding-full c.before.before.loop.invariant c.before.before.before.before.before.before.requires.0 c.if1.true))
+    (λ c. feeding_full c.before.before.loop.invariant c.before.before.before.before.before.before.requires.0 c.if1.true))

@@ -3,7 +3,7 @@
 use mathlib.Core.Path.{sym, ◌∙◌}
 use borrow.Author.Rules.{rules}
 use borrow.Author.Tests.{not-true, not-false}
-use Rattle.hub_run.proofs.SummaryLaws.{ending-settled, ending-pending, pending-open}
+use Rattle.hub_run.proofs.SummaryLaws.{ending-settled, ending-pending, pending_open}
 use Rattle.hub_run.proofs.ending.finish.Statement.{statement}
 use Rattle.hub_run.proofs.ending.finish.Tie as tie
 
@@ -30,7 +30,7 @@ finish_spec =
     (λ c κs. search rules)
     (λ c. search rules)
     returns
-    (λ c κs. let at = c.before.before.before.before.before in let line = at.args.line.now in (pending-open at.args.h line (sym (c.before.before.is-pending.ensures line at.requires.1) ∙ not-false _ c.before.if1.false), (search rules, at.requires.1)))
+    (λ c κs. let at = c.before.before.before.before.before in let line = at.args.line.now in (pending_open at.args.h line (sym (c.before.before.is-pending.ensures line at.requires.1) ∙ not-false _ c.before.if1.false), (search rules, at.requires.1)))
     (λ c. search rules)
     (λ c. search rules)
     (λ c. search rules)

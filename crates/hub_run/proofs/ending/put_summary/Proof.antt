@@ -2,7 +2,7 @@
 -- Assumes nothing.
 use borrow.Author.Rules.{rules}
 use Rattle.text.proofs.WritingLaws.{puts_then}
-use Rattle.hub_rules.specs.Whole.{summaryHead}
+use Rattle.hub_rules.specs.Whole.{summary_head}
 use Rattle.hub_rules.specs.Stream.{rows_of}
 use Rattle.hub_run.proofs.StateLaws.{counts-below}
 use Rattle.hub_run.proofs.SummaryLaws.{summary-wrong, summary-right}
@@ -15,7 +15,7 @@ returns-2 c =
     let a = at.args in
     let first = c.before.before.before.before.before.before.put-head in
     let next = c.before.before.put-rows in
-    let w = puts_then a.out.now first.new.0 summaryHead (rows_of 1 a.h.counts) _ _ _ first.ensures (search rules) next.ensures.1 in
+    let w = puts_then a.out.now first.new.0 summary_head (rows_of 1 a.h.counts) _ _ _ first.ensures (search rules) next.ensures.1 in
     (search rules, summary-right a.h a.line.now a.out.now _ _ c.before.before.before.before.before.before.before.before.before.if1.false w)
 
 pub put-summary-spec : {M : Type 1} → statement M

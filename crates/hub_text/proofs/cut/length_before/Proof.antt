@@ -3,7 +3,7 @@
 use Prim.Native.Nat.{◌-◌}
 use lib.ListN.{length}
 use borrow.Author.Rules.{rules}
-use Rattle.hub_text.proofs.CutLaws.{Sought, sought-none, sought-turn, sought-here, sought-all}
+use Rattle.hub_text.proofs.CutLaws.{Sought, sought_none, sought_turn, sought_here, sought_all}
 use Rattle.hub_text.proofs.cut.length_before.Statement.{statement}
 use Rattle.hub_text.proofs.cut.length_before.Tie as tie
 
@@ -19,10 +19,10 @@ length-before-spec =
     (tie.spec
     invariant-loop
     decreases-loop
-    (λ c. sought-none _ _)
+    (λ c. sought_none _ _)
     (λ c. search rules)
-    (λ c. sought-here c.before.before.before.loop.invariant c.before.before.loop-test.true c.if1.true)
+    (λ c. sought_here c.before.before.before.loop.invariant c.before.before.loop-test.true c.if1.true)
     (λ c. search rules)
     (λ c. search rules)
-    (λ c. sought-turn c.before.before.before.loop.invariant c.before.before.loop-test.true c.if1.false)
-    (λ c. sought-all c.before.loop.invariant c.loop-test.false))
+    (λ c. sought_turn c.before.before.before.loop.invariant c.before.before.loop-test.true c.if1.false)
+    (λ c. sought_all c.before.loop.invariant c.loop-test.false))

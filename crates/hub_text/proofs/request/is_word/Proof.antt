@@ -3,7 +3,7 @@
 use Prim.Native.Nat.{◌-◌}
 use lib.ListN.{length}
 use borrow.Author.Rules.{rules}
-use Rattle.hub_text.proofs.RequestLaws.{Matched, other_length, matched-none, matched-turn, matched-not, matched-all}
+use Rattle.hub_text.proofs.RequestLaws.{Matched, other_length, matched_none, matched_turn, matched_not, matched_all}
 use Rattle.hub_text.proofs.request.is_word.Statement.{statement}
 use Rattle.hub_text.proofs.request.is_word.Tie as tie
 
@@ -20,11 +20,11 @@ is-word-spec =
     invariant-loop
     decreases-loop
     (λ c. let a = c.before.args in other_length a.w.now a.word.now c.if1.true)
-    (λ c. matched-none _ _ c.if1.false)
+    (λ c. matched_none _ _ c.if1.false)
     (λ c. search rules)
     (λ c. search rules)
-    (λ c. matched-not c.before.before.before.before.loop.invariant c.before.before.before.loop-test.true c.if2.true)
+    (λ c. matched_not c.before.before.before.before.loop.invariant c.before.before.before.loop-test.true c.if2.true)
     (λ c. search rules)
     (λ c. search rules)
-    (λ c. matched-turn c.before.before.before.before.loop.invariant c.before.before.before.loop-test.true c.if2.false)
-    (λ c. matched-all c.before.loop.invariant c.loop-test.false))
+    (λ c. matched_turn c.before.before.before.before.loop.invariant c.before.before.before.loop-test.true c.if2.false)
+    (λ c. matched_all c.before.loop.invariant c.loop-test.false))

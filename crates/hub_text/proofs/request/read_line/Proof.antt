@@ -3,14 +3,14 @@
 use mathlib.Core.Path.{sym, ◌∙◌}
 use borrow.Author.Rules.{rules}
 use borrow.Author.Tests.{not-true, not-false}
-use Rattle.hub_text.proofs.RequestLaws.{parse-other, parse-not, read-malformed}
+use Rattle.hub_text.proofs.RequestLaws.{parse_other, parse-not, read-malformed}
 use Rattle.hub_text.proofs.request.read_line.Statement.{statement}
 use Rattle.hub_text.proofs.request.read_line.Tie as tie
 
 returns : tie.Need-returns
 returns c =
     let at = c.before.before.before.before.before.before in
-    read-malformed at.args.line.now _ _ c.malformed.ensures (parse-other c.before.before.before.spaces.ensures at.requires.0 (not-true _ c.before.if1.true))
+    read-malformed at.args.line.now _ _ c.malformed.ensures (parse_other c.before.before.before.spaces.ensures at.requires.0 (not-true _ c.before.if1.true))
 
 returns-2 : tie.Need-returns-2
 returns-2 c =

@@ -3,8 +3,8 @@
 use mathlib.Core.Path.{ap, ◌∙◌}
 use native.Mathlib.Omega.{arith}
 use borrow.Author.Rules.{rules}
-use Rattle.text.specs.Numerals.{isSetNumber}
-use Rattle.hub_text.proofs.RequestLaws.{stage-none, stage-next, ask, words, read_asked}
+use Rattle.text.specs.Numerals.{is_set_number}
+use Rattle.hub_text.proofs.RequestLaws.{stage_none, stage_next, ask, words, read_asked}
 use Rattle.hub_text.proofs.request.read_request.Statement.{statement}
 use Rattle.hub_text.proofs.request.read_request.Tie as tie
 
@@ -12,34 +12,34 @@ read-next-requires : tie.Need-read-next-requires
 read-next-requires c κs =
     let at = c.before.before.before.before.before.before.before.before.before.before in
     let o = words at.requires.0 in
-    let g₁ = stage-none _ at.args.bytes.now at.requires.1 in
+    let g₁ = stage_none _ at.args.bytes.now at.requires.1 in
     ask o.key g₁ c.before.word3.ensures
 
 read-next-requires-2 : tie.Need-read-next-requires-2
 read-next-requires-2 c κs =
     let at = c.before.before.before.before.before.before.before.before.before.before.before.before.before.before.before.before in
     let o = words at.requires.0 in
-    let g₁ = stage-none _ at.args.bytes.now at.requires.1 in
-    let g₂ = stage-next o.key g₁ c.before.before.before.before.before.before.before.word3.ensures c.before.before.before.before.before.read_next.ensures in
+    let g₁ = stage_none _ at.args.bytes.now at.requires.1 in
+    let g₂ = stage_next o.key g₁ c.before.before.before.before.before.before.before.word3.ensures c.before.before.before.before.before.read_next.ensures in
     ask o.nonce g₂ c.before.word4.ensures
 
 read-next-requires-3 : tie.Need-read-next-requires-3
 read-next-requires-3 c κs =
     let at = c.before.before.before.before.before.before.before.before.before.before.before.before.before.before.before.before.before.before.before.before.before.before in
     let o = words at.requires.0 in
-    let g₁ = stage-none _ at.args.bytes.now at.requires.1 in
-    let g₂ = stage-next o.key g₁ c.before.before.before.before.before.before.before.before.before.before.before.before.before.word3.ensures c.before.before.before.before.before.before.before.before.before.before.before.read_next.ensures in
-    let g₃ = stage-next o.nonce g₂ c.before.before.before.before.before.before.before.word4.ensures c.before.before.before.before.before.read-next2.ensures in
+    let g₁ = stage_none _ at.args.bytes.now at.requires.1 in
+    let g₂ = stage_next o.key g₁ c.before.before.before.before.before.before.before.before.before.before.before.before.before.word3.ensures c.before.before.before.before.before.before.before.before.before.before.before.read_next.ensures in
+    let g₃ = stage_next o.nonce g₂ c.before.before.before.before.before.before.before.word4.ensures c.before.before.before.before.before.read-next2.ensures in
     ask o.ad g₃ c.before.word5.ensures
 
 read-next-requires-4 : tie.Need-read-next-requires-4
 read-next-requires-4 c κs =
     let at = c.before.before.before.before.before.before.before.before.before.before.before.before.before.before.before.before.before.before.before.before.before.before.before.before.before.before.before.before in
     let o = words at.requires.0 in
-    let g₁ = stage-none _ at.args.bytes.now at.requires.1 in
-    let g₂ = stage-next o.key g₁ c.before.before.before.before.before.before.before.before.before.before.before.before.before.before.before.before.before.before.before.word3.ensures c.before.before.before.before.before.before.before.before.before.before.before.before.before.before.before.before.before.read_next.ensures in
-    let g₃ = stage-next o.nonce g₂ c.before.before.before.before.before.before.before.before.before.before.before.before.before.word4.ensures c.before.before.before.before.before.before.before.before.before.before.before.read-next2.ensures in
-    let g₄ = stage-next o.ad g₃ c.before.before.before.before.before.before.before.word5.ensures c.before.before.before.before.before.read-next3.ensures in
+    let g₁ = stage_none _ at.args.bytes.now at.requires.1 in
+    let g₂ = stage_next o.key g₁ c.before.before.before.before.before.before.before.before.before.before.before.before.before.before.before.before.before.before.before.word3.ensures c.before.before.before.before.before.before.before.before.before.before.before.before.before.before.before.before.before.read_next.ensures in
+    let g₃ = stage_next o.nonce g₂ c.before.before.before.before.before.before.before.before.before.before.before.before.before.word4.ensures c.before.before.before.before.before.before.before.before.before.before.before.read-next2.ensures in
+    let g₄ = stage_next o.ad g₃ c.before.before.before.before.before.before.before.word5.ensures c.before.before.before.before.before.read-next3.ensures in
     ask o.text g₄ c.before.word6.ensures
 
 returns : tie.Need-returns
@@ -61,7 +61,7 @@ read-request-spec =
     (λ c κs. search rules)
     (λ c. let at = c.before.before.before.before.before in let o = at.requires.0.cuts.ordered at.requires.0.good in search (rules, o))
     (λ c κs. let at = c.before.before.before.before.before in let o = at.requires.0.cuts.ordered at.requires.0.good in (omega (arith, o), omega (arith, o)))
-    (λ c κs. ap isSetNumber c.word2.ensures ∙ (words c.before.before.before.before.before.before.requires.0).set)
+    (λ c κs. ap is_set_number c.word2.ensures ∙ (words c.before.before.before.before.before.before.requires.0).set)
     (λ c. let at = c.before.before.before.before.before.before.before.before in let o = at.requires.0.cuts.ordered at.requires.0.good in search (rules, o))
     (λ c κs. let at = c.before.before.before.before.before.before.before.before in let o = at.requires.0.cuts.ordered at.requires.0.good in (omega (arith, o), omega (arith, o)))
     read-next-requires

@@ -4,7 +4,7 @@ use Prim.Native.Nat.{◌-◌}
 use mathlib.Core.Logic.{⊎_elim}
 use lib.ListN.{length}
 use borrow.Author.Rules.{rules}
-use Rattle.ledger.proofs.CheckLaws.{Ordered, ordered-none, ordered_same, ordered-other, ordered-all}
+use Rattle.ledger.proofs.CheckLaws.{Ordered, ordered-none, ordered_same, ordered_other, ordered-all}
 use Rattle.ledger.proofs.checks.above.Statement.{statement}
 use Rattle.ledger.proofs.checks.above.Tie as tie
 
@@ -20,7 +20,7 @@ loop-again c =
     let more = c.before.before.before.loop-test.true in
     ⊎_elim
     (λ w. ordered_same _ _ at more c.before.before.before.before.before.requires w.0.taken w.1 w.2)
-    (λ w. ordered-other _ _ at more c.before.before.before.before.before.requires w.0.left (c.before.before.shared-slice-known.given _).fits (c.before.shared-slice-known2.given _).fits w.1 w.2)
+    (λ w. ordered_other _ _ at more c.before.before.before.before.before.requires w.0.left (c.before.before.shared-slice-known.given _).fits (c.before.shared-slice-known2.given _).fits w.1 w.2)
     c.if1.branch
 
 returns : tie.Need-returns invariant-loop decreases-loop

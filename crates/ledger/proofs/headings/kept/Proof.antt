@@ -3,11 +3,11 @@
 use mathlib.Core.Path.{◌≡◌}
 use native.Mathlib.Omega.{arith}
 use lib.ListN.{length}
-use Rattle.ledger_rules.proofs.LedgerLaws.{total-word, keep-accepted}
+use Rattle.ledger_rules.proofs.LedgerLaws.{total-word, keep_accepted}
 use Rattle.ledger.specs.Values.{value_of}
 use Rattle.plain.proofs.SetLaws.{key-part}
 use Rattle.ledger.proofs.CallLaws.{part-key}
-use Rattle.ledger.proofs.HeadingLaws.{its-name, kept-call}
+use Rattle.ledger.proofs.HeadingLaws.{its_name, kept-call}
 use borrow.Author.Rules.{rules}
 use Rattle.ledger.proofs.headings.kept.Statement.{statement}
 use Rattle.ledger.proofs.headings.kept.Tie as tie
@@ -28,14 +28,14 @@ sum-of-requires : tie.Need-sum-of-requires
 sum-of-requires c κs =
     let s = c.before.before.before.before in (
       part-key (value_of s.args.l) s.args.p _ s.requires.0 c.before.key-bytes.ensures (slice-aggregate-sum-of c),
-      (keep-accepted (value_of s.args.l) s.args.name _ s.requires.1).data-limit,
+      (keep_accepted (value_of s.args.l) s.args.name _ s.requires.1).data_limit,
     )
 
 with-sum-requires : tie.Need-with-sum-requires
 with-sum-requires c κs =
     let s = c.before.before.before.before.before.before in
-    let a = keep-accepted (value_of s.args.l) s.args.name _ s.requires.1 in
-    (its-name s.args.name a.is_name, omega (arith, total-word (value_of s.args.l) _ a.not-spent a.is-set, c.charge.ensures))
+    let a = keep_accepted (value_of s.args.l) s.args.name _ s.requires.1 in
+    (its_name s.args.name a.is_name, omega (arith, total-word (value_of s.args.l) _ a.not-spent a.is-set, c.charge.ensures))
 
 returns : tie.Need-returns
 returns c =

@@ -4,8 +4,8 @@ use mathlib.Core.Path.{◌≡◌, ap, ◌∙◌}
 use Prim.Native.Nat.{ℕ}
 use native.Mathlib.Omega.{arith}
 use lib.ListN.{length}
-use Rattle.ledger_rules.specs.Ledger.{Heading, charged, sealCharge}
-use Rattle.ledger_rules.proofs.LedgerLaws.{total-word, ledger-accepted}
+use Rattle.ledger_rules.specs.Ledger.{Heading, charged, seal_charge}
+use Rattle.ledger_rules.proofs.LedgerLaws.{total-word, ledger_accepted}
 use Rattle.ledger.specs.Values.{value_of}
 use Rattle.plain.proofs.SetLaws.{key-part}
 use Rattle.ledger.proofs.CallLaws.{part-key, named-call, named-seals}
@@ -37,10 +37,10 @@ seal-with-requires c κs =
     )
 
 next-requires : tie.Need-next-requires
-unfolding sealCharge
+unfolding seal_charge
 next-requires c κs =
     let s = c.before.before.before.before.before.before.before.before.before.before.before.before.before in
-    let a = ledger-accepted (value_of s.args.l) s.args.nonce.now _ _ _ s.requires.1 in
+    let a = ledger_accepted (value_of s.args.l) s.args.nonce.now _ _ _ s.requires.1 in
     (a.ready.nonce-length, omega (arith, total-word (value_of s.args.l) _ a.not-spent a.is-set, c.charge.ensures))
 
 returns : tie.Need-returns

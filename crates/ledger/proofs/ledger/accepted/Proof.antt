@@ -4,8 +4,8 @@ use mathlib.Core.Path.{◌≡◌, ◌∙◌, ap}
 use Prim.Native.Nat.{ℕ}
 use native.Mathlib.Omega.{arith}
 use lib.ListN.{length}
-use Rattle.ledger_rules.specs.Ledger.{charged, sealCharge}
-use Rattle.ledger_rules.proofs.LedgerLaws.{ledger-accepted, total-word}
+use Rattle.ledger_rules.specs.Ledger.{charged, seal_charge}
+use Rattle.ledger_rules.proofs.LedgerLaws.{ledger_accepted, total-word}
 use Rattle.ledger.specs.Values.{value_of}
 use Rattle.plain.proofs.SetLaws.{key-part}
 use Rattle.ledger.proofs.CallLaws.{accepted-call}
@@ -26,10 +26,10 @@ slice-aggregate-seal-plain c =
     (key-part s.args.l.set s.args.p _ s.args.l.key s.requires.0 c.before.key-bytes.ensures l).1
 
 next-requires : tie.Need-next-requires
-unfolding sealCharge
+unfolding seal_charge
 next-requires c κs =
     let s = c.before.before.before.before.before.before.before.before.before.before.before.before in
-    let a = ledger-accepted (value_of s.args.l) s.args.nonce.now _ _ _ s.requires.1 in
+    let a = ledger_accepted (value_of s.args.l) s.args.nonce.now _ _ _ s.requires.1 in
     (a.ready.nonce-length, omega (arith, total-word (value_of s.args.l) _ a.not-spent a.is-set, c.charge.ensures))
 
 returns : tie.Need-returns

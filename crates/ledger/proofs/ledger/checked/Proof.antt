@@ -4,7 +4,7 @@ use mathlib.Core.Path.{sym, ap, ◌∙◌}
 use Prim.Native.Nat.{ℕ}
 use Rattle.answers.specs.Rows.{answer}
 use Rattle.answers.proofs.RowLaws.{first_stops, first_goes}
-use Rattle.ledger_rules.specs.Ledger.{stale, spent, ownRows}
+use Rattle.ledger_rules.specs.Ledger.{stale, spent, own_rows}
 use Rattle.ledger.specs.Values.{value_of}
 use Rattle.ledger.proofs.CallLaws.{groups-nonce}
 use borrow.Author.Rules.{rules}
@@ -25,7 +25,7 @@ returns-2 : tie.Need-returns-2
 returns-2 c =
     let s = c.before.before.before.before.before in
     c.own-check.ensures
-    ∙ ap (λ (x : ℕ). answer (ownRows (stale (value_of s.args.l) s.args.nonce.now) (spent (value_of s.args.l) x))) c.before.charge.ensures
+    ∙ ap (λ (x : ℕ). answer (own_rows (stale (value_of s.args.l) s.args.nonce.now) (spent (value_of s.args.l) x))) c.before.charge.ensures
     ∙ first_goes _ (sym c.before.before.before.first-checks.ensures ∙ c.before.before.if1.false)
 
 pub checked-spec : {M : Type 1} → statement M

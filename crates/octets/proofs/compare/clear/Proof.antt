@@ -5,7 +5,7 @@ use mathlib.Core.List.{List, ◌++◌}
 use Prim.Native.Nat.{ℕ, ◌-◌}
 use lib.ListN.{drop}
 use borrow.Author.Rules.{rules}
-use Rattle.octets.proofs.Strings.{Filled, fill_none, fill-turn, filled}
+use Rattle.octets.proofs.Strings.{Filled, fill_none, fill_turn, filled}
 use Rattle.octets.proofs.CompareLaws.{zeros}
 use Rattle.octets.proofs.compare.clear.Statement.{statement}
 use Rattle.octets.proofs.compare.clear.Tie as tie
@@ -31,6 +31,6 @@ clear_spec =
     (λ c. search rules)
     (λ c. search rules)
     (λ c. search rules)
-    (λ c. fill-turn c.before.loop.invariant c.loop-test.true)
+    (λ c. fill_turn c.before.loop.invariant c.loop-test.true)
     (λ c. search rules)
     returns)

@@ -1,14 +1,14 @@
 -- `plain::seal::seal_plain` meets its contract.
 -- Assumes nothing.
 use borrow.Author.Rules.{rules}
-use Rattle.plain.proofs.AnswerLaws.{seal-unknown}
+use Rattle.plain.proofs.AnswerLaws.{seal_unknown}
 use Rattle.plain.proofs.seal.seal_plain.Statement.{statement}
 use Rattle.plain.proofs.seal.seal_plain.Tie as tie
 
 returns : tie.Need-returns
 returns c =
     let a = c.before.before.before.before.before.before.before.before.args in
-    seal-unknown a.set a.key.now a.nonce.now a.ad.now a.message.now a.out.now (cc)
+    seal_unknown a.set a.key.now a.nonce.now a.ad.now a.message.now a.out.now (cc)
 
 seal-known-requires : tie.Need-seal-known-requires
 seal-known-requires c κs = cc

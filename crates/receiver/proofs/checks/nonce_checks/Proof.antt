@@ -5,8 +5,8 @@ use mathlib.Core.List.{[], ◌∷◌}
 use Prim.Native.Nat.{ℕ}
 use lib.ListN.{length}
 use Rattle.answers.specs.Rows.{answer}
-use Rattle.cba_rules.specs.Checks.{badStart}
-use Rattle.plain.proofs.AnswerLaws.{nonce-refused, nonce-length, start-follows}
+use Rattle.cba_rules.specs.Checks.{bad_start}
+use Rattle.plain.proofs.AnswerLaws.{nonce-refused, nonce-length, start_follows}
 use Rattle.receiver_rules.specs.Receiver.{prefix_of}
 use borrow.Author.Rules.{rules}
 use Rattle.receiver.proofs.checks.nonce_checks.Statement.{statement}
@@ -26,8 +26,8 @@ returns-2 : tie.Need-returns-2
 returns-2 c =
     let first = c.before.before in
     let a = first.before.before.before.args in
-    start-follows a.prefix (length a.nonce.now) (prefix_of a.nonce.now) first.before.nonce-check.ensures first.if1.false
-    (c.start-check.ensures ∙ ap (λ (x : ℕ). answer (badStart a.prefix x ∷ [])) c.before.prefix-of.ensures)
+    start_follows a.prefix (length a.nonce.now) (prefix_of a.nonce.now) first.before.nonce-check.ensures first.if1.false
+    (c.start-check.ensures ∙ ap (λ (x : ℕ). answer (bad_start a.prefix x ∷ [])) c.before.prefix-of.ensures)
 
 pub nonce-checks-spec : {M : Type 1} → statement M
 nonce-checks-spec = tie.close (tie.spec (λ c κs. search rules) returns prefix-of-requires (λ c κs. search rules) returns-2)

@@ -6,13 +6,13 @@ use native.Mathlib.Omega.{arith}
 use lib.ListN.{length, drop, length-drop}
 use lib.Seq.{take_all}
 use Rattle.octets.specs.Numbers.{number}
-use Rattle.receiver_rules.specs.Receiver.{counterOf}
+use Rattle.receiver_rules.specs.Receiver.{counter_of}
 use borrow.Author.Rules.{rules}
 use Rattle.receiver.proofs.nonce.counter_of.Statement.{statement}
 use Rattle.receiver.proofs.nonce.counter_of.Tie as tie
 
 returns : tie.Need-returns
-unfolding counterOf
+unfolding counter_of
 returns c =
     let N = c.before.before.before.args.nonce.now in
     c.big_endian.ensures ∙ ap number (take_all (length N - 4) (drop 4 N) (simp length-drop (omega arith)))

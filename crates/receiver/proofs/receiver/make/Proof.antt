@@ -1,7 +1,7 @@
 -- `receiver::receiver::make` meets its contract.
 -- Assumes nothing.
 use mathlib.Core.Path.{sym, ◌∙◌}
-use Rattle.receiver_rules.specs.Receiver.{makeRows, makeAnswer}
+use Rattle.receiver_rules.specs.Receiver.{make_rows, make_answer}
 use Rattle.receiver_rules.proofs.ReceiverLaws.{made_so, made_none}
 use Rattle.plain.proofs.SetLaws.{key-limit}
 use borrow.Author.Rules.{rules}
@@ -9,18 +9,18 @@ use Rattle.receiver.proofs.receiver.make.Statement.{statement}
 use Rattle.receiver.proofs.receiver.make.Tie as tie
 
 returns : tie.Need-returns
-unfolding makeAnswer
+unfolding make_answer
 returns c =
     let a = c.before.before.before.before.args in
     let e = c.before.before.make-checks.ensures in
     (e, c.none.ensures ∙ sym (made_none a.set a.key.now a.prefix (λ z. c.before.if1.true (e ∙ z))))
 
 begin-requires : tie.Need-begin-requires
-unfolding makeRows
+unfolding make_rows
 begin-requires c κs = key-limit c.before.before.before.args.set _ (sym c.before.make-checks.ensures ∙ c.if1.false)
 
 returns-2 : tie.Need-returns-2
-unfolding makeAnswer
+unfolding make_answer
 returns-2 c =
     let a = c.before.before.before.before.args in
     let e = sym c.before.before.make-checks.ensures ∙ c.before.if1.false in

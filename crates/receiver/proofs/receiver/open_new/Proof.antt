@@ -4,9 +4,9 @@ use mathlib.Core.Path.{◌≡◌, refl, sym, ap, ◌∙◌}
 use mathlib.Core.Bool.{false}
 use lib.ListN.{length}
 use Rattle.plain.proofs.SetLaws.{key-part}
-use Rattle.window_rules.specs.Window.{isRepeat}
-use Rattle.receiver_rules.specs.Receiver.{counterOf, withCounter}
-use Rattle.receiver.specs.Values.{windowOf, value_of}
+use Rattle.window_rules.specs.Window.{is_repeat}
+use Rattle.receiver_rules.specs.Receiver.{counter_of, with_counter}
+use Rattle.receiver.specs.Values.{window_of, value_of}
 use Rattle.receiver.proofs.CallLaws.{call-false, call-true}
 use borrow.Author.Rules.{rules}
 use Rattle.receiver.proofs.receiver.open_new.Statement.{statement}
@@ -27,8 +27,8 @@ slice-aggregate-open-plain c =
     (key-part s.args.v.set s.args.p _ s.args.v.key s.pre.known c.before.key-bytes.ensures (at_length c.before)).1
 
 -- the counter is no repeat
-new : (s : tie.Start) → isRepeat (windowOf s.args.v.window) (counterOf s.args.nonce.now) ≡ false
-new s = ap (isRepeat (windowOf s.args.v.window)) (sym s.pre.counter-is) ∙ s.pre.new
+new : (s : tie.Start) → is_repeat (window_of s.args.v.window) (counter_of s.args.nonce.now) ≡ false
+new s = ap (is_repeat (window_of s.args.v.window)) (sym s.pre.counter_is) ∙ s.pre.new
 
 returns : tie.Need-returns
 returns c =
@@ -43,7 +43,7 @@ returns-2 c =
     let a = s.args in
     let at_key = c.before.before.before.before.before.before.before in
     call-true (value_of a.v) a.p s.pre.known a.nonce.now a.ad.now a.ciphertext.now a.out.now (sym s.pre.passes) (at_length at_key) refl (new s) _ at_key.key-bytes.ensures _ _ c.before.before.before.before.open_plain.ensures _ c.before.if1.left
-    (c.next.ensures ∙ ap (withCounter (value_of a.v)) s.pre.counter-is)
+    (c.next.ensures ∙ ap (with_counter (value_of a.v)) s.pre.counter_is)
 
 pub open-new-spec : {M : Type 1} → statement M
 open-new-spec =

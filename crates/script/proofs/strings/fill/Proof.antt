@@ -4,7 +4,7 @@ use mathlib.Core.Path.{refl}
 use Prim.Native.Nat.{◌-◌}
 use lib.ListN.{length}
 use borrow.Author.Rules.{rules}
-use Rattle.octets.proofs.Strings.{Filled, fill_none, fill-value, filled-whole}
+use Rattle.octets.proofs.Strings.{Filled, fill_none, fill_value, filled-whole}
 use Rattle.script.specs.Strings.{seeded}
 use Rattle.script.proofs.strings.fill.Statement.{statement}
 use Rattle.script.proofs.strings.fill.Tie as tie
@@ -26,6 +26,6 @@ fill_spec =
     (λ c. search rules)
     (λ c. search rules)
     (λ c. search rules)
-    (λ c. fill-value c.before.before.loop.invariant (search rules) c.byte_at.ensures)
+    (λ c. fill_value c.before.before.loop.invariant (search rules) c.byte_at.ensures)
     (λ c. search rules)
     (λ c. filled-whole c.before.loop.invariant (search rules) refl))

@@ -1,16 +1,16 @@
 -- `text::decimal::put_decimal` meets its contract.
 -- Assumes nothing.
 use borrow.Author.Rules.{rules}
-use Rattle.text.proofs.DecimalLaws.{digitsOf, put-without}
+use Rattle.text.proofs.DecimalLaws.{digits_of, put_without}
 use Rattle.text.proofs.decimal.put_decimal.Statement.{statement}
 use Rattle.text.proofs.decimal.put_decimal.Tie as tie
 
 returns : tie.Need-returns
-unfolding digitsOf
+unfolding digits_of
 returns c =
     let at = c.before.before.before.before.before.before.before.before in
     let from = c.before.before.before.before.before.before.leading in
-    (search rules, put-without 5 at.args.n from.result at.args.out.now _ from.ensures c.before.before.put.ensures)
+    (search rules, put_without 5 at.args.n from.result at.args.out.now _ from.ensures c.before.before.put.ensures)
 
 pub put-decimal-spec : {M : Type 1} → statement M
 put-decimal-spec =

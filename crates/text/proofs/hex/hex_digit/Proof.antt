@@ -1,7 +1,7 @@
 -- `text::hex::hex_digit` meets its contract.
 -- Assumes nothing.
 use borrow.Author.Rules.{rules}
-use Rattle.text.proofs.HexLaws.{digit-ten, digit-letter}
+use Rattle.text.proofs.HexLaws.{digit-ten, digit_letter}
 use Rattle.text.proofs.hex.hex_digit.Statement.{statement}
 use Rattle.text.proofs.hex.hex_digit.Tie as tie
 
@@ -12,4 +12,4 @@ hex-digit-spec =
     (λ c. search rules)
     (λ c. digit-ten c.before.args.v c.if1.true)
     (λ c. search rules)
-    (λ c. digit-letter c.before.args.v c.if1.false))
+    (λ c. digit_letter c.before.args.v c.if1.false))

@@ -5,7 +5,7 @@ use mathlib.Core.List.{List, ◌++◌}
 use Prim.Native.Nat.{ℕ, ◌+◌, ◌-◌, ◌*◌, ◌/◌}
 use lib.ListN.{length, drop}
 use borrow.Author.Rules.{rules}
-use Rattle.octets.proofs.Strings.{Filled, fill_none, fill-value, filled}
+use Rattle.octets.proofs.Strings.{Filled, fill_none, fill_value, filled}
 use Rattle.text.proofs.HexLaws.{pair-at, pair_at, unhex-table}
 use Rattle.text.proofs.hex.read_hex.Statement.{statement}
 use Rattle.text.proofs.hex.read_hex.Tie as tie
@@ -18,7 +18,7 @@ decreases-loop w out₀ i₀ out i = length w / 2 - i
 
 loop-again : tie.Need-loop-preserved invariant-loop decreases-loop
 loop-again c =
-    fill-value c.before.before.before.before.before.loop.invariant c.before.before.before.before.loop-test.true
+    fill_value c.before.before.before.before.before.loop.invariant c.before.before.before.before.loop-test.true
     (ap₂ (λ (a b : ℕ). a * 16 + b) c.before.before.hex-value.ensures.0 c.hex-value2.ensures.0)
 
 returns : tie.Need-returns invariant-loop decreases-loop

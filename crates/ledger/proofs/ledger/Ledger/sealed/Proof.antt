@@ -1,9 +1,9 @@
 -- `ledger::ledger::Ledger::sealed` meets its contract.
 -- Assumes nothing.
 use mathlib.Core.Path.{refl, sym, ◌∙◌}
-use Rattle.ledger_rules.specs.Ledger.{sourceRow, sealCharge}
+use Rattle.ledger_rules.specs.Ledger.{source_row, seal_charge}
 use Rattle.ledger_rules.specs.Ledger.Source.{given}
-use Rattle.ledger_rules.proofs.LedgerLaws.{ledger-refused}
+use Rattle.ledger_rules.proofs.LedgerLaws.{ledger_refused}
 use Rattle.ledger.specs.Values.{value_of}
 use Rattle.ledger.proofs.CallLaws.{unknown-refused, from-source}
 use borrow.Author.Rules.{rules}
@@ -13,24 +13,24 @@ use Rattle.ledger.proofs.ledger.Ledger.sealed.Tie as tie
 returns : tie.Need-returns
 returns c =
     let a = c.before.before.before.before.before.before.before.args in
-    unknown-refused (value_of a.self) a.nonce.now (given a.ad.now) a.message.now a.out.now (sym c.before.before.lookup.ensures.case-is ∙ c.enum_told.given.1)
+    unknown-refused (value_of a.self) a.nonce.now (given a.ad.now) a.message.now a.out.now (sym c.before.before.lookup.ensures.case_is ∙ c.enum_told.given.1)
 
 checked-requires : tie.Need-checked-requires
-checked-requires c κs = sym c.before.before.before.before.lookup.ensures.case-is ∙ c.before.before.p.given.1
+checked-requires c κs = sym c.before.before.before.before.lookup.ensures.case_is ∙ c.before.before.p.given.1
 
 returns-2 : tie.Need-returns-2
-unfolding sourceRow sealCharge
+unfolding source_row seal_charge
 returns-2 c =
     let a = c.before.before.before.before.before.before.before.before.before.before.before.args in
-    let known = sym c.before.before.before.before.before.before.lookup.ensures.case-is ∙ c.before.before.before.before.p.given.1 in
-    ledger-refused (value_of a.self) a.nonce.now (given a.ad.now) a.message.now a.out.now _
+    let known = sym c.before.before.before.before.before.before.lookup.ensures.case_is ∙ c.before.before.before.before.p.given.1 in
+    ledger_refused (value_of a.self) a.nonce.now (given a.ad.now) a.message.now a.out.now _
     (c.before.checked.ensures ∙ from-source (value_of a.self) _ known a.nonce.now _ _ _ (given a.ad.now) _ c.before.before.ad-check.ensures refl) c.if1.true
 
 accepted-requires : tie.Need-accepted-requires
-unfolding sourceRow sealCharge
+unfolding source_row seal_charge
 accepted-requires c κs =
     let a = c.before.before.before.before.before.before.before.before.before.before.before.before.args in
-    let known = sym c.before.before.before.before.before.before.before.lookup.ensures.case-is ∙ c.before.before.before.before.before.p.given.1 in
+    let known = sym c.before.before.before.before.before.before.before.lookup.ensures.case_is ∙ c.before.before.before.before.before.p.given.1 in
     (known, sym (c.before.before.checked.ensures ∙ from-source (value_of a.self) _ known a.nonce.now _ _ _ (given a.ad.now) _ c.before.before.before.ad-check.ensures refl) ∙ c.before.if1.false)
 
 pub sealed-spec : {M : Type 1} → statement M

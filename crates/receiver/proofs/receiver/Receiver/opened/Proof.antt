@@ -2,10 +2,10 @@
 -- Assumes nothing.
 use mathlib.Core.Path.{sym, ap, ◌∙◌}
 use lib.ListN.{length}
-use Rattle.cba_mode.specs.Sets.{tagBytes}
-use Rattle.window_rules.specs.Window.{isRepeat}
-use Rattle.receiver.specs.Values.{windowOf, value_of}
-use Rattle.receiver.proofs.CallLaws.{unknown-refused, lengths-nonce, lengths-refused, repeat-refused}
+use Rattle.cba_mode.specs.Sets.{tag_bytes}
+use Rattle.window_rules.specs.Window.{is_repeat}
+use Rattle.receiver.specs.Values.{window_of, value_of}
+use Rattle.receiver.proofs.CallLaws.{unknown-refused, lengths-nonce, lengths-refused, repeat_refused}
 use borrow.Author.Rules.{rules}
 use Rattle.receiver.proofs.receiver.Receiver.opened.Statement.{statement}
 use Rattle.receiver.proofs.receiver.Receiver.opened.Tie as tie
@@ -13,35 +13,35 @@ use Rattle.receiver.proofs.receiver.Receiver.opened.Tie as tie
 returns : tie.Need-returns
 returns c =
     let a = c.before.before.before.before.before.before.before.args in
-    unknown-refused (value_of a.self) a.nonce.now a.ad.now a.ciphertext.now a.out.now (sym c.before.before.lookup.ensures.case-is ∙ c.enum_told.given.1)
+    unknown-refused (value_of a.self) a.nonce.now a.ad.now a.ciphertext.now a.out.now (sym c.before.before.lookup.ensures.case_is ∙ c.enum_told.given.1)
 
 returns-2 : tie.Need-returns-2
 returns-2 c =
     let a = c.before.before.before.before.before.before.before.before.before.before.args in
-    let known = sym c.before.before.before.before.before.lookup.ensures.case-is ∙ c.before.before.before.p.given.1 in
+    let known = sym c.before.before.before.before.before.lookup.ensures.case_is ∙ c.before.before.before.p.given.1 in
     lengths-refused (value_of a.self) _ known a.nonce.now a.ad.now a.ciphertext.now a.out.now c.before.length-checks.ensures c.if1.true
 
 counter-of-requires : tie.Need-counter-of-requires
 counter-of-requires c κs =
     let a = c.before.before.before.before.before.before.before.before.before.before.args in
-    let t = tagBytes c.before.before.before.p.given.0.0.tau in
+    let t = tag_bytes c.before.before.before.p.given.0.0.tau in
     lengths-nonce t a.self.prefix a.nonce.now (length a.ad.now) (length a.ciphertext.now) (length a.out.now) (sym c.before.length-checks.ensures ∙ c.if1.false)
 
 returns-3 : tie.Need-returns-3
 returns-3 c =
     let at = c.before.before.before.before in
     let a = at.before.before.before.before.before.before.before.before.before.before.args in
-    let known = sym at.before.before.before.before.before.lookup.ensures.case-is ∙ at.before.before.before.p.given.1 in
-    let new = c.before.is-repeat.ensures ∙ ap (isRepeat (windowOf a.self.window)) c.before.before.before.counter-of.ensures in
-    repeat-refused (value_of a.self) _ known a.nonce.now a.ad.now a.ciphertext.now a.out.now at.before.length-checks.ensures at.if1.false (sym new ∙ c.if2.true)
+    let known = sym at.before.before.before.before.before.lookup.ensures.case_is ∙ at.before.before.before.p.given.1 in
+    let new = c.before.is-repeat.ensures ∙ ap (is_repeat (window_of a.self.window)) c.before.before.before.counter-of.ensures in
+    repeat_refused (value_of a.self) _ known a.nonce.now a.ad.now a.ciphertext.now a.out.now at.before.length-checks.ensures at.if1.false (sym new ∙ c.if2.true)
 
 open-new-requires : tie.Need-open-new-requires
 open-new-requires c κs =
     let at = c.before.before.before.before.before in
     record {
-      known = sym at.before.before.before.before.before.lookup.ensures.case-is ∙ at.before.before.before.p.given.1;
+      known = sym at.before.before.before.before.before.lookup.ensures.case_is ∙ at.before.before.before.p.given.1;
       passes = sym at.before.length-checks.ensures ∙ at.if1.false;
-      counter-is = c.before.before.before.before.counter-of.ensures;
+      counter_is = c.before.before.before.before.counter-of.ensures;
       new = sym c.before.before.is-repeat.ensures ∙ c.before.if2.false;
     }
 
