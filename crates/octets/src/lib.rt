@@ -1,6 +1,8 @@
 // Byte strings: what the cipher and the modes share.
 //
 // The definitions are in specs/, the laws about them in proofs/.
+#![tactic(auto)]
+
 mod compare;
 
 ghost use Rattle.std.specs.Prelude.{◌≡◌, ◌≤◌, length, take};
