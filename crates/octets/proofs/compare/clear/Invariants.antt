@@ -1,0 +1,16 @@
+-- `octets::compare::clear` meets its contract: after i turns the first i bytes are zeros.
+-- Assumes nothing.
+use mathlib.Core.Path.{ap, ◌∙◌}
+use mathlib.Core.List.{List, ◌++◌}
+use Prim.Native.Nat.{ℕ, ◌-◌}
+use lib.ListN.{drop}
+use borrow.Author.Rules.{rules}
+use Rattle.octets.proofs.Strings.{Filled, fill_none, fill_turn, filled}
+use Rattle.octets.proofs.CompareLaws.{zeros}
+use Rattle.octets.proofs.compare.clear.Given as goal
+
+abbrev pub invariant-loop-i : goal.invariant-loop-i
+invariant-loop-i l = Filled (λ k. 0) l.n l.initial.out l.i l.out
+
+abbrev pub decreases-loop-i : goal.decreases-loop-i
+decreases-loop-i l = l.n - l.i
