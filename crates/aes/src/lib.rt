@@ -2,6 +2,8 @@
 //
 // A caller that uses a key for several blocks holds its context, and that for decryption where it
 // decrypts. aes_encrypt and aes_decrypt do all of that for one block.
+#![tactic(auto)]
+
 mod cipher;
 mod context;
 mod inverse;

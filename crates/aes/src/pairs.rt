@@ -19,7 +19,7 @@ use crate::inverse::{full_inv_round, inv_sub_shift};
 use crate::table::{add_key, sub_shift};
 use aes_schedule::{Words, xor_words};
 
-#[derive(Drop)]
+#[derive(Clone, Copy)]
 pub struct Pair {
     pub x: Words,
     pub y: Words,

@@ -1,4 +1,6 @@
 // The key schedule of AES, and the words that it and the rounds work on.
+#![tactic(auto)]
+
 mod schedule;
 mod words;
 

@@ -15,7 +15,7 @@ const POWERS: [u8; 10] = [0x01, 0x02, 0x04, 0x08, 0x10, 0x20, 0x40, 0x80, 0x1b, 
 
 // Where the loop over the words after the key's stands: nk words q times, and k more. It is counted,
 // since a division for each word took a tenth of a short call.
-#[derive(Drop)]
+#[derive(Clone, Copy)]
 struct Place {
     k: usize,
     q: usize,

@@ -3,7 +3,7 @@ ghost use Rattle.std.specs.Prelude.{◌≡◌, [], ◌∷◌, ◌+◌, ◌/◌, 
 ghost use Rattle.octets.specs.Xor.{xors};
 ghost use Rattle.aes_schedule.specs.Words.{bytes_of, block_of, word_at, looked_up};
 
-#[derive(Drop)]
+#[derive(Clone, Copy)]
 pub struct Words {
     pub a: u32,
     pub b: u32,

@@ -9,6 +9,8 @@
 // The round keys of A and the inner states of B, which openssl does not show, were held against an
 // AES of its own kind, with the S-box computed from the field, and that one against openssl under
 // the same keys.
+#![tactic(auto)]
+
 ghost use Rattle.std.specs.Prelude.{◌≤◌, ◌<◌};
 ghost use Rattle.fips197.specs.Cipher.{key_rounds};
 ghost use Rattle.aes.specs.Context.{Encrypts};

@@ -1,4 +1,6 @@
 // The calls that C gets, and nothing else: `rt staticlib cba` makes libcba.a of them.
+#![tactic(auto)]
+
 ghost use Rattle.cba_rules.specs.Refusals.{SealCall, OpenCall};
 ghost use Rattle.cmac_rules.specs.Marks.{MakeCall, CheckCall};
 

@@ -1,2 +1,3 @@
 // The mode CBA v1-1 over any block cipher: its definitions and their laws. What it has in code begins
 // in `cba_steps`.
+#![tactic(auto)]

@@ -1,4 +1,6 @@
 // Opening: DEC of the paper, for a key that is set.
+#![tactic(auto)]
+
 mod blocks;
 mod forms;
 mod joined;

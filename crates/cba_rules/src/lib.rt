@@ -1,2 +1,3 @@
 // Plain sealing and plain opening as definitions: their checks, answers and outputs, and the three
 // demands with their proofs. The code is in `plain`.
+#![tactic(auto)]

@@ -9,7 +9,7 @@ use crate::pieces::{mask, nonce_block, right_aligned};
 use cba_steps::{Halves, Parameters, start};
 
 // The first offset, and T_A with zeros before it.
-#[derive(Drop)]
+#[derive(Clone, Copy)]
 pub struct Begun {
     pub offset: Halves,
     pub data: [u8; 16],

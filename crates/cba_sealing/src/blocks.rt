@@ -12,7 +12,7 @@ use aes_schedule::{Words, read, words_at, write, xor_words};
 use cba_steps::{Halves, doubled, words};
 
 // What goes from block to block: the offset and the checksum.
-#[derive(Drop)]
+#[derive(Clone, Copy)]
 pub struct Running {
     pub offset: Halves,
     pub sum: Words,

@@ -1,4 +1,6 @@
 // Sealing: ENC of the paper, for a key that is set. What opening has in common with it is offered.
+#![tactic(auto)]
+
 mod begin;
 mod blocks;
 mod forms;

@@ -4,7 +4,7 @@ ghost use Rattle.cba_steps.specs.Endings.{Decided};
 
 // The form, and the number of full blocks before the last two of the joined form or the last one of
 // the separate.
-#[derive(Drop)]
+#[derive(Clone, Copy)]
 pub struct Ending {
     pub joined: bool,
     pub blocks: usize,

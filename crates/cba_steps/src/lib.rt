@@ -1,4 +1,6 @@
 // The steps of the mode in code: parameters, forms, offsets, padding, and the associated data.
+#![tactic(auto)]
+
 mod associated;
 mod endings;
 mod offsets;

@@ -8,7 +8,7 @@ ghost use Rattle.cba_steps.specs.Halves.{halves_of};
 use aes_schedule::{Words, first, fourth, join, read, second, third, write};
 
 // An offset as its halves, so that a step turns no bytes into numbers.
-#[derive(Drop)]
+#[derive(Clone, Copy)]
 pub struct Halves {
     pub a: u64,
     pub b: u64,

@@ -3,7 +3,7 @@ ghost use Rattle.std.specs.Prelude.{◌≡◌, ◌/◌, ◌≤◌};
 ghost use Rattle.cba_mode.specs.Sets.{ell, tag_bytes};
 
 // Key bits, tag bits τ, capacity exponent b.
-#[derive(Drop)]
+#[derive(Clone, Copy)]
 pub struct Parameters {
     pub key: u16,
     pub tau: u8,

@@ -4,6 +4,8 @@
 //
 // The files stdin and stdout beside src/ are what `reference ta-records` and `reference ta-tags`
 // write, which ./test makes again and compares.
+#![tactic(auto)]
+
 ghost use Rattle.std.specs.Prelude.{◌≤◌};
 
 use libc::STDIN_FILENO;

@@ -1,4 +1,6 @@
 // CMAC of RFC 4493 and SP 800-38B over AES, and the marks of logs made with it.
+#![tactic(auto)]
+
 mod chain;
 mod marks;
 mod subkeys;

@@ -19,7 +19,7 @@ fn double(x: [u8; 16]) -> [u8; 16]
     })
 }
 
-#[derive(Drop)]
+#[derive(Clone, Copy)]
 pub struct Subkeys {
     pub k1: [u8; 16],
     pub k2: [u8; 16],

@@ -5,6 +5,8 @@
 // The file stdout beside src/, which this is held to, was written from these and not from a run of
 // this program. At every run of ./test tests/vectors.sh holds L and the codes against openssl, and
 // the subkeys against its own doubling of that L.
+#![tactic(auto)]
+
 ghost use Rattle.std.specs.Prelude.{◌≤◌, length};
 ghost use Rattle.aes.specs.Context.{Encrypts};
 

@@ -1,5 +1,7 @@
 // The byte field of FIPS 197, and the S-box and its inverse as constant tables. The tests that are
 // computed over all bytes are slow, so they have a crate to themselves.
+#![tactic(auto)]
+
 mod inv_sub;
 mod sub;
 

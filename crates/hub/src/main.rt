@@ -1,5 +1,7 @@
 // The hub program: standard input in large chunks, standard output in large writes. Every byte that it
 // writes is decided by `hub_run`, which says of each chunk what it adds to the output.
+#![tactic(auto)]
+
 ghost use Rattle.std.specs.Prelude.{◌≡◌, false, ◌≤◌, length, take};
 ghost use Rattle.hub_run.specs.Values.{end_room, state_of, Sound};
 ghost use Rattle.hub.specs.Follows.{Small, Follows, Reached};
@@ -10,7 +12,7 @@ use libc::{STDIN_FILENO, STDOUT_FILENO};
 
 // The state, how much of the input was read last, how many bytes of what it says were written, whether
 // more is to be read, and whether a write failed.
-#[derive(Drop)]
+#[derive(Clone, Copy)]
 struct Going {
     hub: Hub,
     read: usize,

@@ -14,7 +14,7 @@ use hub_text::{Asked, BYTES_ROOM, LINE_LIMIT, read_line, word};
 const RESULT_ROOM: usize = 2064;
 
 // The answer to a line, the set if it is accepted, else 0, and how many bytes its result has.
-#[derive(Drop)]
+#[derive(Clone, Copy)]
 pub struct Reply {
     pub answer: u32,
     pub set: u32,
@@ -22,7 +22,7 @@ pub struct Reply {
 }
 
 // The set of an accepted line, else 0, and how many bytes its line of output has.
-#[derive(Drop)]
+#[derive(Clone, Copy)]
 pub struct Answer {
     pub set: u32,
     pub written: usize,

@@ -1,4 +1,6 @@
 // What the hub program answers to a line, and the line of output.
+#![tactic(auto)]
+
 mod answer;
 mod line;
 

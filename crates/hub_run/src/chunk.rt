@@ -7,7 +7,7 @@ use crate::line::end_line;
 use crate::state::{Hub, LINE_KEPT, LINE_ROOM, is_over};
 
 // The next state, how many bytes of the chunk are used up, and how many are said.
-#[derive(Drop)]
+#[derive(Clone, Copy)]
 pub struct Fed {
     pub hub: Hub,
     pub used: usize,

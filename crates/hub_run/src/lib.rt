@@ -1,4 +1,6 @@
 // The hub program between its standard input and its standard output: chunks in, text out.
+#![tactic(auto)]
+
 mod chunk;
 mod ending;
 mod line;

@@ -10,7 +10,7 @@ use crate::state::Hub;
 use hub_answer::answer_line;
 
 // The next state, and how many bytes are said.
-#[derive(Drop)]
+#[derive(Clone, Copy)]
 pub struct Step {
     pub hub: Hub,
     pub written: usize,

@@ -15,7 +15,7 @@ const LINES: u32 = 10000;
 
 // The lines that have ended, the first among them; whether that was another line than it must be; the
 // accepted lines of sets 1 to 10; how many bytes of the line so far are kept.
-#[derive(Drop)]
+#[derive(Clone, Copy)]
 pub struct Hub {
     pub lines: u32,
     pub wrong: bool,

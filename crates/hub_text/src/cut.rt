@@ -4,7 +4,7 @@ ghost use Rattle.hub_grammar.specs.Lines.{length_before};
 ghost use Rattle.hub_text.specs.Cuts.{end_of_word, no_cut, Cuts};
 
 // The places of the five spaces, where there are six words.
-#[derive(Drop)]
+#[derive(Clone, Copy)]
 pub struct Cut {
     pub good: bool,
     pub a: usize,

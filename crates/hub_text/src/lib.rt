@@ -1,4 +1,6 @@
 // The lines of the hub program: their words, and what a line asks for.
+#![tactic(auto)]
+
 mod cut;
 mod request;
 

@@ -17,7 +17,7 @@ pub const BYTES_ROOM: usize = 2048;
 
 // A request's act and set, and where its strings end in the bytes that were read; good is false for
 // a malformed line.
-#[derive(Drop)]
+#[derive(Clone, Copy)]
 pub struct Asked {
     pub good: bool,
     pub seals: bool,

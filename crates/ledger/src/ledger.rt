@@ -12,7 +12,7 @@ use cba_steps::Parameters;
 use plain::{Set, ad_check, first_of, key_check, lookup, message_check, nonce_check, start_check};
 
 // What is kept under a name, a heading: whether there is something, and the sum of the data.
-#[derive(Drop)]
+#[derive(Clone, Copy)]
 pub struct Heading {
     pub kept: bool,
     pub sum: [u8; 16],
@@ -24,7 +24,7 @@ pub struct Heading {
 //
 // Several consoles may seal under one key, each with a ledger. That their numbers differ and that
 // their totals stay at 2^b together is the hub's to see to: a ledger sees itself alone.
-#[derive(Drop)]
+#[derive(Clone, Copy)]
 pub struct Ledger {
     pub set: u32,
     pub key: [u8; 32],
@@ -37,7 +37,7 @@ pub struct Ledger {
 }
 
 // A call's answer, and the next ledger; a making's, and the ledger that it gives.
-#[derive(Drop)]
+#[derive(Clone, Copy)]
 pub struct Outcome {
     pub answer: u32,
     pub ledger: Ledger,

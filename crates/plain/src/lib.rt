@@ -1,5 +1,7 @@
 // CBA v1-1 over AES for the ten parameter sets: plain sealing and plain opening by set number, with
 // the checks that they share with other calls.
+#![tactic(auto)]
+
 mod checks;
 mod open;
 mod seal;

@@ -4,7 +4,7 @@ ghost use Rattle.plain.specs.Lookup.{LooksUp};
 use cba_steps::Parameters;
 
 // What a set number yields: its parameters, or none where it is not 1 to 10.
-#[derive(Drop)]
+#[derive(Clone, Copy)]
 pub enum Set {
     Known(Parameters),
     Unknown,

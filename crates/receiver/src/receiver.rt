@@ -12,7 +12,7 @@ use plain::{Set, lookup};
 
 // The set, the key with zeros after it up to 32 bytes, the number that its nonces begin with, four
 // bytes of them, and the window over their counters, the other eight.
-#[derive(Drop)]
+#[derive(Clone, Copy)]
 pub struct Receiver {
     pub set: u32,
     pub key: [u8; 32],
@@ -21,7 +21,7 @@ pub struct Receiver {
 }
 
 // A call's answer, and the receiver after it.
-#[derive(Drop)]
+#[derive(Clone, Copy)]
 pub struct Outcome {
     pub answer: u32,
     pub receiver: Receiver,

@@ -7,7 +7,7 @@ const REACH: u64 = 64;
 
 // Whether any counter was accepted, the highest of them, and which of the 64 ending there were: bit i
 // of marks, counted from the lowest, stands for the one that is i below.
-#[derive(Drop)]
+#[derive(Clone, Copy)]
 pub struct Window {
     pub begun: bool,
     pub highest: u64,

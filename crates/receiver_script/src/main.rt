@@ -16,6 +16,8 @@
 // Data and what the output holds before a call are made from their seeds by `script::fill`; the output's
 // seed is 165. The files stdin and stdout beside src/ are what tests/receiver_model writes, the receiver
 // written a second time, which ./test makes again and compares.
+#![tactic(auto)]
+
 mod lines;
 
 ghost use Rattle.std.specs.Prelude.{◌≡◌};

@@ -3,6 +3,8 @@
 //
 // No contract can say which bytes a call of C's writes, so what a line shows is held to the programs'
 // file stdout.
+#![tactic(auto)]
+
 mod lines;
 mod numbers;
 mod records;

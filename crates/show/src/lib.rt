@@ -2,6 +2,8 @@
 //
 // No contract can say which bytes a call of C's writes, and these return nothing: they are held to
 // the programs' file stdout.
+#![tactic(auto)]
+
 use libc::STDOUT_FILENO;
 
 pub fn space() {

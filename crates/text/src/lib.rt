@@ -1,4 +1,6 @@
 // Text of bytes: decimal numbers and hex strings, read and written.
+#![tactic(auto)]
+
 mod decimal;
 mod hex;
 mod put;

@@ -11,5 +11,5 @@ returns : tie.Need-returns
 unfolding xtime mul_bits mul squares inverse bits_of affine s_box multiples entry entries
 returns c = refl
 
-pub forward-spec : {M : Type 1} → statement M
-forward-spec = tie.close (tie.spec returns)
+pub forward_spec : {M : Type 1} → statement M
+forward_spec = tie.close (tie.spec returns)

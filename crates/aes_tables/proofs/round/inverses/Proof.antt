@@ -12,5 +12,5 @@ returns : tie.Need-returns
 unfolding table xtime mul_bits mul squares inverse bits_of inv_affine inv_s_box multiples inverse_entry entries
 returns c = refl
 
-pub inverses-spec : {M : Type 1} → statement M
-inverses-spec = tie.close (tie.spec returns)
+pub inverses_spec : {M : Type 1} → statement M
+inverses_spec = tie.close (tie.spec returns)

@@ -11,5 +11,5 @@ returns : tie.Need-returns
 unfolding table xtime mul_bits mul squares inverse bits_of inv_affine inv_s_box
 returns c = refl
 
-pub inverse-s-box-spec : {M : Type 1} → statement M
-inverse-s-box-spec = tie.close (tie.spec returns)
+pub inverse_s_box_spec : {M : Type 1} → statement M
+inverse_s_box_spec = tie.close (tie.spec returns)

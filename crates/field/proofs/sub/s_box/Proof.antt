@@ -11,5 +11,5 @@ returns : tie.Need-returns
 unfolding table xtime mul_bits mul squares inverse bits_of affine s_box
 returns c = refl
 
-pub s-box-spec : {M : Type 1} → statement M
-s-box-spec = tie.close (tie.spec returns)
+pub s_box_spec : {M : Type 1} → statement M
+s_box_spec = tie.close (tie.spec returns)
