@@ -20,15 +20,13 @@ pub word_at-x-requires : goal.word_at-x-requires
 word_at-x-requires c = let k = key-words _ c.requires.key_value in search rules
 
 pub loop-m-init : goal.loop-m-init
-loop-m-init c =
-    expand_none _ _ _ _ c.requires.key_value c.requires.at_in_bounds c.put.ensures _ c.requires.boxes c.requires.le_at c.ctx-1.given.1 c.word_at-x.ensures
+loop-m-init c = expand_none _ _ _ _ c.requires.key_value c.requires.at_in_bounds c.put.ensures _ c.requires.boxes c.requires.le_at c.ctx-1.given.1 c.word_at-x.ensures
 
 pub next_word-a-requires : goal.next_word-a-requires
-next_word-a-requires c =
-    (c.loop-m.invariant.words.boxes, ((c.loop-m.invariant.place.inside, few c.loop-m.invariant c.loop-m-test.true), (c.loop-m.invariant.so_many, search rules)))
+next_word-a-requires c = record { boxes = c.loop-m.invariant.words.boxes; k_lt_nk = (c.loop-m.invariant.place.inside, few c.loop-m.invariant c.loop-m-test.true); m_value = c.loop-m.invariant.so_many; m_in_bounds = search rules }
 
 pub next_place-p-requires : goal.next_place-p-requires
-next_place-p-requires c = (c.loop-m.invariant.place, few c.loop-m.invariant c.loop-m-test.true)
+next_place-p-requires c = record { paired = c.loop-m.invariant.place; q_bound = few c.loop-m.invariant c.loop-m-test.true }
 
 pub overflow_add-m-in-loop-m-2 : goal.overflow_add-m-in-loop-m-2
 overflow_add-m-in-loop-m-2 c = let l = fits-two c.loop-m.invariant c.loop-m-test.true in search rules
@@ -43,5 +41,4 @@ loop-m-preserved c =
     turned c.loop-m.invariant two c.next_place-p.ensures.0 c.next_place-p.ensures.1
 
 pub returns : goal.returns
-returns c =
-    expand_all _ _ _ _ c.requires.key_value c.requires.at_in_bounds c.put.ensures c.loop-m.invariant.words c.loop-m-test.false
+returns c = expand_all _ _ _ _ c.requires.key_value c.requires.at_in_bounds c.put.ensures c.loop-m.invariant.words c.loop-m-test.false

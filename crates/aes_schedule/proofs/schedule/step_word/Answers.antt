@@ -18,24 +18,21 @@ first : (x r y p j : ℕ) → bytes_of r ≡ rot_word (bytes_of x) → bytes_of 
     bytes_of (bit_xor y p) ≡ xors (sub_word (rot_word (bytes_of x))) (rcon j)
 first x r y p j e f g = xor_bytes y p ∙ ap₂ xors (f ∙ ap sub_word e) (rcon-word j p g)
 
-rest : (c : goal.Start) → (c.args.nk + passed c.args.nk c.args.p) % c.args.nk ≡ c.args.p.k
-rest c = remainder_is _ _ _ c.requires.k_lt_nk.0
-
 pub returns-then-p-eq0 : goal.returns-then-p-eq0
 returns-then-p-eq0 c =
     first _ _ _ _ _ c.rot_word.ensures c.sub_word-y.ensures (rw (quotient_is _ _ _ c.requires.k_lt_nk.0) c.power_of.ensures)
-    ∙ sym (temp-first _ _ _ (rest c ∙ c.if-p-eq0.true))
+    ∙ sym (temp-first _ _ _ (remainder_is _ _ _ c.requires.k_lt_nk.0 ∙ c.if-p-eq0.true))
 
 pub returns-then-p-eq4 : goal.returns-then-p-eq4
 returns-then-p-eq4 c =
-    let e = rest c in
+    let e = remainder_is _ _ _ c.requires.k_lt_nk.0 in
     c.sub_word.ensures
     ∙ sym (temp_middle _ _ _ (λ h. c.if-p-eq0.false (sym e ∙ h)) c.if-nk-gt6.true (e ∙ c.if-p-eq4.true))
 
 pub returns-else-p-eq4 : goal.returns-else-p-eq4
 returns-else-p-eq4 c =
-    let e = rest c in
+    let e = remainder_is _ _ _ c.requires.k_lt_nk.0 in
     sym (temp_other _ _ _ (λ h. c.if-p-eq0.false (sym e ∙ h)) (λ h. c.if-p-eq4.false (sym e ∙ h)))
 
 pub returns-else-nk-gt6 : goal.returns-else-nk-gt6
-returns-else-nk-gt6 c = let e = rest c in sym (temp-short _ _ _ (λ h. c.if-p-eq0.false (sym e ∙ h)) c.if-nk-gt6.false)
+returns-else-nk-gt6 c = let e = remainder_is _ _ _ c.requires.k_lt_nk.0 in sym (temp-short _ _ _ (λ h. c.if-p-eq0.false (sym e ∙ h)) c.if-nk-gt6.false)
