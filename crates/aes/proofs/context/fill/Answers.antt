@@ -1,0 +1,13 @@
+-- `aes::context::fill` meets its contract: the schedule is written behind the round table.
+-- Assumes nothing.
+use native.Mathlib.Omega.{arith}
+use borrow.Author.Rules.{rules}
+use Rattle.aes_tables.specs.Round.{forward}
+use Rattle.aes.proofs.ContextLaws.{length-forward, blank_long, blank_boxes, encrypts-made}
+use Rattle.aes.proofs.context.fill.Goals as goal
+
+pub expand-requires : goal.expand-requires
+expand-requires c = record { key_value = c.requires.key_value; boxes = blank_boxes _ c.requires.ctx_value; le_at = omega arith; at_in_bounds = omega (arith, blank_long forward 2048 _ length-forward c.requires.ctx_value) }
+
+pub returns : goal.returns
+returns c = encrypts-made _ _ _ c.requires.key_value c.requires.ctx_value c.expand.ensures

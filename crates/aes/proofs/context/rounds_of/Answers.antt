@@ -1,0 +1,10 @@
+-- `aes::context::rounds_of` meets its contract.
+-- Assumes nothing.
+use mathlib.Core.Path.{refl}
+use native.Mathlib.Omega.{arith}
+use borrow.Author.Rules.{rules}
+use Rattle.fips197.proofs.ScheduleLaws.{key-words}
+use Rattle.aes.proofs.context.rounds_of.Goals as goal
+
+pub returns : goal.returns
+returns c = let k = key-words _ c.requires in (refl, omega arith, omega arith)

@@ -1,0 +1,29 @@
+-- `aes::pairs::pair_inv_rounds` meets its contract: after i turns the States are those after i rounds, of every pair that the first
+-- AddRoundKey takes to where the loop began.
+-- Assumes nothing.
+use mathlib.Core.Path.{ap, ◌∙◌}
+use Prim.Native.Nat.{ℕ, ◌-◌, ◌≤◌}
+use native.Mathlib.Nat.{le_antisymm}
+use borrow.Author.Rules.{rules}
+use Rattle.fips197.specs.Steps.{add_round_key}
+use Rattle.fips197.specs.Equivalent.{eq_rounds}
+use Rattle.fips197.proofs.EquivalentLaws.{eq_rounds-more}
+use Rattle.aes.specs.declared.pairs.Pair.{Pair}
+use Rattle.aes.specs.Pairs.{Both}
+use Rattle.aes.proofs.PairLaws.{both_as, both-then}
+use Rattle.aes.proofs.pairs.pair_inv_rounds.Goals as goal
+
+pub loop-i-init : goal.loop-i-init
+unfolding eq_rounds
+loop-i-init c = (search rules, λ p e. e)
+
+pub both_inv_rounds-next-requires : goal.both_inv_rounds-next-requires
+both_inv_rounds-next-requires c = record { entries = c.requires.entries; n_in_bounds = search rules }
+
+pub loop-i-preserved : goal.loop-i-preserved
+loop-i-preserved c = (search rules, λ p e. both-then (λ s t u. eq_rounds-more _ s _ t u _) (c.loop-i.invariant.1 p e) c.both_inv_rounds-next.ensures)
+
+pub returns : goal.returns
+returns c =
+    both_as (λ s u e. e ∙ ap (λ (n : ℕ). eq_rounds c.args.w.now c.args.nr n s) (le_antisymm c.loop-i.invariant.0 c.loop-i-test.false))
+    (c.loop-i.invariant.1 _ c.add_keys-k.ensures)

@@ -1,0 +1,25 @@
+-- `aes::table::shifted` meets its contract.
+-- Assumes nothing.
+use mathlib.Core.Path.{ap, ◌∙◌}
+use borrow.Author.Rules.{rules}
+use Rattle.field.specs.SBox.{s_box}
+use Rattle.aes_schedule.proofs.WordLaws.{four}
+use Rattle.aes.proofs.TableLaws.{entry-boxes}
+use Rattle.aes.proofs.table.shifted.Goals as goal
+
+pub boxed-requires : goal.boxed-requires
+boxed-requires c = search (rules, entry-boxes)
+
+pub boxed-requires-2 : goal.boxed-requires-2
+boxed-requires-2 c = search (rules, entry-boxes)
+
+pub boxed-requires-3 : goal.boxed-requires-3
+boxed-requires-3 c = search (rules, entry-boxes)
+
+pub boxed-requires-4 : goal.boxed-requires-4
+boxed-requires-4 c = search (rules, entry-boxes)
+
+pub returns : goal.returns
+returns c =
+    c.join.ensures
+    ∙ four (c.boxed.ensures ∙ ap s_box c.first.ensures) (c.boxed-2.ensures ∙ ap s_box c.second.ensures) (c.boxed-3.ensures ∙ ap s_box c.third.ensures) (c.boxed-4.ensures ∙ ap s_box c.fourth.ensures)

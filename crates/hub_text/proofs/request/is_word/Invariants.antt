@@ -1,0 +1,13 @@
+-- `hub_text::request::is_word` meets its contract: after i turns the first i bytes are the same.
+-- Assumes nothing.
+use Prim.Native.Nat.{◌-◌}
+use lib.ListN.{length}
+use borrow.Author.Rules.{rules}
+use Rattle.hub_text.proofs.RequestLaws.{Matched, other_length, matched_none, matched_turn, matched_not, matched_all}
+use Rattle.hub_text.proofs.request.is_word.Given as goal
+
+abbrev pub invariant-loop-i : goal.invariant-loop-i
+invariant-loop-i l = Matched l.w l.word l.i
+
+abbrev pub decreases-loop-i : goal.decreases-loop-i
+decreases-loop-i l = length l.w - l.i
