@@ -1,0 +1,18 @@
+-- `cba_sealing::pieces::mask` meets its contract: after i turns the first i bytes are masked.
+-- Assumes nothing.
+use mathlib.Core.Path.{◌≡◌, refl, ap, ◌∙◌}
+use mathlib.Core.List.{List, ◌++◌}
+use Prim.Native.Nat.{ℕ, ◌+◌, ◌-◌, ◌≤◌}
+use lib.Bits.{bit_xor}
+use lib.ListN.{length, get_or, drop}
+use native.Mathlib.Omega.{arith}
+use borrow.Author.Rules.{rules}
+use Rattle.octets.proofs.Strings.{Filled, fill_none, fill_turn, filled}
+use Rattle.octets.proofs.Xor.{xors-part}
+use Rattle.cba_sealing.proofs.pieces.mask.Given as goal
+
+abbrev pub invariant-loop-i : goal.invariant-loop-i
+invariant-loop-i l = Filled (λ k. bit_xor (get_or l.s k 0) (get_or l.block (l.at + k) 0)) (length l.s) l.initial.out l.i l.out
+
+abbrev pub decreases-loop-i : goal.decreases-loop-i
+decreases-loop-i l = length l.s - l.i
