@@ -1,0 +1,16 @@
+-- `cba_opening::forms::attempted` meets its contract, by those of the functions that it calls.
+-- Assumes nothing.
+use borrow.Author.Rules.{rules}
+use Rattle.cba_opening.proofs.forms.attempted.Goals as goal
+
+pub open_short-requires : goal.open_short-requires
+open_short-requires c = record { encrypts = c.requires.encrypts; opens = c.requires.opens; ciphertext_len_bound = rw (c.first_bytes.ensures, c.tag_bytes.ensures) at c.if-ciphertext-first_bytes.true }
+
+pub returns-then-ciphertext-first_bytes : goal.returns-then-ciphertext-first_bytes
+returns-then-ciphertext-first_bytes c = c.open_short.ensures
+
+pub open_long-requires : goal.open_long-requires
+open_long-requires c = record { encrypts = c.requires.encrypts; opens = c.requires.opens; tau_in_bounds = rw (c.first_bytes.ensures, c.tag_bytes.ensures) at c.if-ciphertext-first_bytes.false }
+
+pub returns : goal.returns
+returns c = c.open_long.ensures
