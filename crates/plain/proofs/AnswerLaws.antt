@@ -62,9 +62,9 @@ module _ (set : ℕ) (p : Parameters) (known : lookup_of set ≡ Known p) (key N
       let a = seal_accepted set key N A M out e in
       let v = its_values set p known in
       record {
-        is-key = set_key set key a.0.is_set a.0.key-length;
+        is-key = set_key set key a.0.is-set a.0.key-length;
         data_limit = a.0.data_limit;
-        seals = record { given = record { fits = rw (v.1, v.2) (set-fits set a.0.is_set); nonce = a.0.nonce-length }; room = rw v.1 a.1.room };
+        seals = record { given = record { fits = rw (v.1, v.2) (set-fits set a.0.is-set); nonce = a.0.nonce-length }; room = rw v.1 a.1.room };
       }
 
   -- where the code wrote ENC
@@ -132,11 +132,11 @@ module _ (set : ℕ) (p : Parameters) (known : lookup_of set ≡ Known p) (key N
       let a = open_checked set key N A C out (sym before-false ∙ e) in
       let v = its_values set p known in
       record {
-        is-key = set_key set key a.0.is_set a.0.key-length;
+        is-key = set_key set key a.0.is-set a.0.key-length;
         data_limit = a.0.data_limit;
         opens =
             record {
-              given = record { fits = rw (v.1, v.2) (set-fits set a.0.is_set); nonce = a.0.nonce-length };
+              given = record { fits = rw (v.1, v.2) (set-fits set a.0.is-set); nonce = a.0.nonce-length };
               least = rw v.1 a.1.least;
               room = rw v.1 (omega (arith, a.1.room));
             };

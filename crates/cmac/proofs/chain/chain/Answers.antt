@@ -1,0 +1,16 @@
+-- `cmac::chain::chain` meets its contract: after i turns X is that of the first i blocks.
+-- Assumes nothing.
+use Prim.Native.Nat.{◌-◌}
+use borrow.Author.Rules.{rules}
+use Rattle.fips197.specs.Cipher.{cipher}
+use Rattle.cmac.proofs.ChainLaws.{Chained, chained_none, chained_turn, chained_all}
+use Rattle.cmac.proofs.chain.chain.Goals as goal
+
+pub loop-i-init : goal.loop-i-init
+loop-i-init c = chained_none _ _ _
+
+pub loop-i-preserved : goal.loop-i-preserved
+loop-i-preserved c = chained_turn _ _ _ _ _ _ c.loop-i.invariant c.loop-i-test.true c.first_block-m.ensures c.xor_block.ensures c.encrypt-next.ensures
+
+pub returns : goal.returns
+returns c = chained_all _ _ _ c.loop-i.invariant c.loop-i-test.false
