@@ -1,7 +1,7 @@
 -- ENC of document 002, over any block cipher E, any τ and b. All but its first step, T_A ← H(K, A), is a sealing with T_A, any string of
 -- t bytes.
 -- Assumes nothing.
-use Rattle.std.specs.Prelude.{cond, List, [], ◌∷◌, ◌++◌, ℕ, zero, suc, ◌+◌, ◌-◌, ◌/◌, ltb, length, take, drop, replicate}
+use Rattle.std.specs.Prelude.{cond, List, [], ◌∷◌, ◌++◌, ℕ, zero, suc, ◌-◌, ◌/◌, ltb, length, take, drop, replicate}
 use Rattle.octets.specs.Xor.{xors}
 use Rattle.octets.specs.Blocks.{block}
 use Rattle.cba_mode.specs.Sets.{tag_bytes, ell}

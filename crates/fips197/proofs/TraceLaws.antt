@@ -1,15 +1,11 @@
 -- The steps by number are the rounds, in both directions.
 -- Assumes nothing.
-use mathlib.Core.Path.{◌≡◌, refl, sym, ap, ap₂, ◌∙◌}
-use mathlib.Core.Bool.{Bool, true, false, cond}
+use mathlib.Core.Path.{◌≡◌, sym, ap, ap₂, ◌∙◌}
 use mathlib.Core.List.{List}
 use Prim.Native.Nat.{ℕ, zero, suc, ◌+◌, ◌-◌, ◌*◌, ◌/◌, ◌%◌, ◌<◌}
 use native.Mathlib.Omega.{arith}
 use borrow.Author.Tests.{eq-eqb, ne_eqb}
-use Rattle.fips197.specs.Steps.{add_round_key}
-use Rattle.fips197.specs.Cipher.{rounds}
-use Rattle.fips197.specs.Equivalent.{eq_rounds}
-use Rattle.fips197.specs.Trace.{Direction, forth, back, step, state_after, cipher_state, eq_state}
+use Rattle.fips197.specs.Trace.{Direction, step, state_after}
 
 module _ (d : Direction) (nr : ℕ) (s : List ℕ) where
   -- the State after a step whose round and place in it are known

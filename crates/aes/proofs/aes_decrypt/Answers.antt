@@ -2,7 +2,6 @@
 -- Assumes nothing.
 use mathlib.Core.Path.{◌≡◌, sym, ◌∙◌}
 use mathlib.Core.Bool.{true}
-use borrow.Author.Rules.{rules}
 use Rattle.fips197.specs.Schedule.{is_key}
 use Rattle.fips197.specs.Cipher.{inv_cipher}
 use Rattle.aes.proofs.ContextLaws.{answer-good, answer_bad, answered-good, answered_bad}

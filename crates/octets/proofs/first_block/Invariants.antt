@@ -1,10 +1,8 @@
 -- `octets::first_block` meets its contract: after i turns the first i bytes are those of the slice.
 -- Assumes nothing.
-use mathlib.Core.Path.{refl, ◌∙◌}
 use Prim.Native.Nat.{◌-◌}
 use lib.ListN.{get_or}
-use borrow.Author.Rules.{rules}
-use Rattle.octets.proofs.Strings.{Filled, fill_none, fill_turn, filled-whole, table-take}
+use Rattle.octets.proofs.Strings.{Filled}
 use Rattle.octets.proofs.first_block.Given as goal
 
 abbrev pub invariant-loop-i : goal.invariant-loop-i

@@ -2,10 +2,9 @@
 -- Assumes nothing.
 use mathlib.Core.Path.{ap, ◌∙◌}
 use mathlib.Core.List.{List, ◌++◌}
-use Prim.Native.Nat.{ℕ, ◌-◌}
-use lib.ListN.{length, get_or, drop}
-use borrow.Author.Rules.{rules}
-use Rattle.octets.proofs.Strings.{Filled, fill_none, fill_turn, filled, table-get_or}
+use Prim.Native.Nat.{ℕ}
+use lib.ListN.{length, drop}
+use Rattle.octets.proofs.Strings.{fill_none, fill_turn, filled, table-get_or}
 use Rattle.octets.proofs.put.Goals as goal
 
 pub loop-i-init : goal.loop-i-init

@@ -1,11 +1,8 @@
 -- `octets::put` meets its contract: after i turns the first i bytes are those of the string.
 -- Assumes nothing.
-use mathlib.Core.Path.{ap, ◌∙◌}
-use mathlib.Core.List.{List, ◌++◌}
-use Prim.Native.Nat.{ℕ, ◌-◌}
-use lib.ListN.{length, get_or, drop}
-use borrow.Author.Rules.{rules}
-use Rattle.octets.proofs.Strings.{Filled, fill_none, fill_turn, filled, table-get_or}
+use Prim.Native.Nat.{◌-◌}
+use lib.ListN.{length, get_or}
+use Rattle.octets.proofs.Strings.{Filled}
 use Rattle.octets.proofs.put.Given as goal
 
 abbrev pub invariant-loop-i : goal.invariant-loop-i

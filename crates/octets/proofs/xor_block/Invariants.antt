@@ -1,12 +1,9 @@
 -- `octets::xor_block` meets its contract: after i turns the first i bytes are those of the exclusive or.
 -- Assumes nothing.
-use mathlib.Core.Path.{◌≡◌, refl, ◌∙◌}
 use Prim.Native.Nat.{◌-◌}
 use lib.Bits.{bit_xor}
-use lib.ListN.{length, get_or}
-use borrow.Author.Rules.{rules}
-use Rattle.octets.proofs.Strings.{Filled, fill_none, fill_turn, filled-whole}
-use Rattle.octets.proofs.Xor.{xors-table}
+use lib.ListN.{get_or}
+use Rattle.octets.proofs.Strings.{Filled}
 use Rattle.octets.proofs.xor_block.Given as goal
 
 abbrev pub invariant-loop-i : goal.invariant-loop-i

@@ -3,7 +3,6 @@
 use mathlib.Core.Path.{ap, ◌∙◌}
 use mathlib.Core.List.{List}
 use Prim.Native.Nat.{ℕ}
-use borrow.Author.Rules.{rules}
 use Rattle.fips197.specs.Steps.{sub_bytes, shift_rows, add_round_key}
 use Rattle.aes.proofs.cipher.encipher.Goals as goal
 

@@ -1,7 +1,6 @@
 -- `aes::cipher::full_round` meets its contract, by those of the functions that it calls.
 -- Assumes nothing.
 use mathlib.Core.Path.{ap, ◌∙◌}
-use borrow.Author.Rules.{rules}
 use Rattle.fips197.specs.Steps.{add_round_key}
 use Rattle.aes.proofs.cipher.full_round.Goals as goal
 

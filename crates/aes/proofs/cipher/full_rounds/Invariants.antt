@@ -1,15 +1,12 @@
 -- `aes::cipher::full_rounds` meets its contract: after i turns the State is that after i rounds, of every block that the
 -- first AddRoundKey takes to where the loop began.
 -- Assumes nothing.
-use mathlib.Core.Path.{◌≡◌, ap, ◌∙◌}
+use mathlib.Core.Path.{◌≡◌}
 use mathlib.Core.List.{List}
 use Prim.Native.Nat.{ℕ, ◌-◌, ◌≤◌}
-use native.Mathlib.Nat.{le_antisymm}
-use borrow.Author.Rules.{rules}
 use Rattle.fips197.specs.Steps.{add_round_key}
 use Rattle.fips197.specs.Cipher.{rounds}
 use Rattle.aes_schedule.specs.Words.{block_of}
-use Rattle.fips197.proofs.CipherLaws.{rounds-more}
 use Rattle.aes.proofs.cipher.full_rounds.Given as goal
 
 abbrev pub invariant-loop-i : goal.invariant-loop-i

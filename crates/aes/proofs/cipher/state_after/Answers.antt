@@ -3,7 +3,6 @@
 use mathlib.Core.Path.{ap, ◌∙◌}
 use mathlib.Core.List.{List}
 use Prim.Native.Nat.{ℕ}
-use borrow.Author.Rules.{rules}
 use Rattle.fips197.specs.Cipher.{rounds}
 use Rattle.aes.proofs.ContextLaws.{encrypts_keys}
 use Rattle.aes.proofs.cipher.state_after.Goals as goal

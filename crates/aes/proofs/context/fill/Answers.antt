@@ -1,7 +1,6 @@
 -- `aes::context::fill` meets its contract: the schedule is written behind the round table.
 -- Assumes nothing.
 use native.Mathlib.Omega.{arith}
-use borrow.Author.Rules.{rules}
 use Rattle.aes_tables.specs.Round.{forward}
 use Rattle.aes.proofs.ContextLaws.{length-forward, blank_long, blank_boxes, encrypts-made}
 use Rattle.aes.proofs.context.fill.Goals as goal

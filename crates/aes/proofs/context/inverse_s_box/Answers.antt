@@ -1,7 +1,6 @@
 -- `aes::context::inverse_s_box` meets its contract: the inverse S-box stands second.
 -- Assumes nothing.
 use native.Mathlib.Omega.{arith}
-use borrow.Author.Rules.{rules}
 use Rattle.aes_tables.specs.Round.{inverses}
 use Rattle.aes.proofs.ContextLaws.{length-inverses, holds-long, inverse-second}
 use Rattle.aes.proofs.context.inverse_s_box.Goals as goal

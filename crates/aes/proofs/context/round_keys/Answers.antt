@@ -1,12 +1,10 @@
 -- `aes::context::round_keys` meets its contract: the schedule is the first of the round keys' 240 bytes.
 -- Assumes nothing.
 use mathlib.Core.Path.{◌≡◌, ap, ◌∙◌}
-use Prim.Native.Nat.{ℕ, suc, ◌+◌, ◌-◌, ◌*◌, ◌<◌, ◌≤◌}
+use Prim.Native.Nat.{◌+◌, ◌-◌, ◌*◌, ◌≤◌}
 use native.Mathlib.Omega.{arith}
-use lib.ListN.{length, take, drop, get_or}
-use borrow.Author.Rules.{rules}
+use lib.ListN.{length, take, drop}
 use Rattle.octets.proofs.Strings.{bytes_of}
-use Rattle.fips197.specs.Cipher.{key_rounds}
 use Rattle.aes.specs.Context.{schedule_at}
 use Rattle.aes.proofs.ContextLaws.{length-schedule, context_keys}
 use Rattle.aes.proofs.context.round_keys.Goals as goal

@@ -2,7 +2,6 @@
 -- Assumes nothing.
 use mathlib.Core.Path.{refl}
 use native.Mathlib.Omega.{arith}
-use borrow.Author.Rules.{rules}
 use Rattle.fips197.proofs.ScheduleLaws.{key-words}
 use Rattle.aes.proofs.context.rounds_of.Goals as goal
 

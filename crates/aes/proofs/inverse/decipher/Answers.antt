@@ -3,7 +3,6 @@
 use mathlib.Core.Path.{ap, ◌∙◌}
 use mathlib.Core.List.{List}
 use Prim.Native.Nat.{ℕ}
-use borrow.Author.Rules.{rules}
 use Rattle.fips197.specs.Steps.{add_round_key, inv_sub_bytes, inv_shift_rows}
 use Rattle.aes.proofs.inverse.decipher.Goals as goal
 

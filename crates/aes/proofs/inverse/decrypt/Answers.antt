@@ -1,7 +1,6 @@
 -- `aes::inverse::decrypt` meets its contract: it is D on words.
 -- Assumes nothing.
 use mathlib.Core.Path.{ap, ◌∙◌}
-use borrow.Author.Rules.{rules}
 use Rattle.fips197.specs.Cipher.{inv_cipher}
 use Rattle.aes.proofs.inverse.decrypt.Goals as goal
 

@@ -1,7 +1,6 @@
 -- `aes::inverse::full_inv_round` meets its contract, by those of the functions that it calls.
 -- Assumes nothing.
 use mathlib.Core.Path.{ap, ◌∙◌}
-use borrow.Author.Rules.{rules}
 use Rattle.fips197.specs.Steps.{add_round_key}
 use Rattle.aes.proofs.inverse.full_inv_round.Goals as goal
 

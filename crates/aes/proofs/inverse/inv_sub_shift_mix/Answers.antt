@@ -1,6 +1,5 @@
 -- `aes::inverse::inv_sub_shift_mix` meets its contract.
 -- Assumes nothing.
-use borrow.Author.Rules.{rules}
 use Rattle.aes.proofs.TableLaws.{unmix-block}
 use Rattle.aes.proofs.inverse.inv_sub_shift_mix.Goals as goal
 

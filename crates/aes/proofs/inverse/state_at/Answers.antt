@@ -5,7 +5,6 @@ use mathlib.Core.Path.{◌≡◌, refl, sym, ap, ◌∙◌}
 use mathlib.Core.List.{List}
 use Prim.Native.Nat.{ℕ, ◌+◌, ◌*◌, ◌/◌}
 use native.Mathlib.Omega.{arith}
-use borrow.Author.Rules.{rules}
 use Rattle.fips197.specs.Steps.{add_round_key}
 use Rattle.fips197.specs.Equivalent.{eq_state}
 use Rattle.fips197.proofs.EquivalentLaws.{at-round, at-sub, at-shift, at-mix, at_last}

@@ -1,6 +1,5 @@
 -- `aes::inverse_keys::inv_mix_key` meets its contract, column by column.
 -- Assumes nothing.
-use borrow.Author.Rules.{rules}
 use Rattle.aes.proofs.TableLaws.{unmixed-key}
 use Rattle.aes.proofs.inverse_keys.inv_mix_key.Goals as goal
 

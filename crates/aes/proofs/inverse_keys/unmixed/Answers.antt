@@ -1,6 +1,5 @@
 -- `aes::inverse_keys::unmixed` meets its contract.
 -- Assumes nothing.
-use borrow.Author.Rules.{rules}
 use Rattle.aes.proofs.TableLaws.{unmixed-word}
 use Rattle.aes.proofs.inverse_keys.unmixed.Goals as goal
 

@@ -1,6 +1,5 @@
 -- `aes::pairs::encrypt_pair` meets its contract: the context holds the table and the schedule that the rounds read.
 -- Assumes nothing.
-use borrow.Author.Rules.{rules}
 use Rattle.fips197.proofs.CipherLaws.{cipher-at}
 use Rattle.aes.proofs.ContextLaws.{encrypts_keys}
 use Rattle.aes.proofs.PairLaws.{both_as}

@@ -2,14 +2,11 @@
 -- AddRoundKey takes to where the loop began.
 -- Assumes nothing.
 use mathlib.Core.Path.{ap, ◌∙◌}
-use Prim.Native.Nat.{ℕ, ◌-◌, ◌≤◌}
+use Prim.Native.Nat.{ℕ}
 use native.Mathlib.Nat.{le_antisymm}
 use borrow.Author.Rules.{rules}
-use Rattle.fips197.specs.Steps.{add_round_key}
 use Rattle.fips197.specs.Cipher.{rounds}
 use Rattle.fips197.proofs.CipherLaws.{rounds-more}
-use Rattle.aes.specs.declared.pairs.Pair.{Pair}
-use Rattle.aes.specs.Pairs.{Both}
 use Rattle.aes.proofs.PairLaws.{both_as, both-then}
 use Rattle.aes.proofs.pairs.pair_rounds.Goals as goal
 

@@ -1,7 +1,6 @@
 -- `aes::table::add_key` meets its contract.
 -- Assumes nothing.
 use mathlib.Core.Path.{ap, ◌∙◌}
-use borrow.Author.Rules.{rules}
 use Rattle.octets.specs.Xor.{xors}
 use Rattle.fips197.specs.Steps.{add_round_key}
 use Rattle.aes.proofs.table.add_key.Goals as goal

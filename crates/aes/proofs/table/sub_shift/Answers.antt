@@ -1,6 +1,5 @@
 -- `aes::table::sub_shift` meets its contract.
 -- Assumes nothing.
-use borrow.Author.Rules.{rules}
 use Rattle.aes.proofs.TableLaws.{shift-block}
 use Rattle.aes.proofs.table.sub_shift.Goals as goal
 

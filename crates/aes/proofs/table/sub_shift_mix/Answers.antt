@@ -1,6 +1,5 @@
 -- `aes::table::sub_shift_mix` meets its contract.
 -- Assumes nothing.
-use borrow.Author.Rules.{rules}
 use Rattle.aes.proofs.TableLaws.{mix-block}
 use Rattle.aes.proofs.table.sub_shift_mix.Goals as goal
 

@@ -2,12 +2,11 @@
 -- carried, and what stands before and after them is as it was.
 -- Assumes nothing.
 use mathlib.Core.Path.{sym, ap₂, ◌∙◌}
-use Prim.Native.Nat.{◌+◌, ◌*◌, ◌-◌}
 use borrow.Author.Rules.{rules}
 use Rattle.octets.specs.Xor.{xors}
 use Rattle.fips197.proofs.ScheduleLaws.{key-words}
 use Rattle.aes_schedule.proofs.WordLaws.{xor_bytes}
-use Rattle.aes_schedule.proofs.ExpandLaws.{Turning, few, room_for_two, fits-two, second, turned, expand_none, expand_turn, expand_all}
+use Rattle.aes_schedule.proofs.ExpandLaws.{few, room_for_two, fits-two, second, turned, expand_none, expand_turn, expand_all}
 use Rattle.aes_schedule.proofs.schedule.expand.Goals as goal
 
 pub put-requires : goal.put-requires

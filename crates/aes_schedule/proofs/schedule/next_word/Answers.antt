@@ -1,7 +1,6 @@
 -- `aes_schedule::schedule::next_word` meets its contract, by those of the functions that it calls.
 -- Assumes nothing.
 use mathlib.Core.Path.{ap₂, ◌∙◌}
-use borrow.Author.Rules.{rules}
 use Rattle.octets.specs.Xor.{xors}
 use Rattle.aes_schedule.proofs.WordLaws.{xor_bytes}
 use Rattle.aes_schedule.proofs.schedule.next_word.Goals as goal

@@ -1,13 +1,11 @@
 -- `aes_schedule::schedule::step_word` meets its contract, by the cases of the definition.
 -- Assumes nothing.
 use mathlib.Core.Path.{◌≡◌, sym, ap, ap₂, ◌∙◌}
-use Prim.Native.Nat.{ℕ, ◌+◌, ◌-◌, ◌%◌}
+use Prim.Native.Nat.{ℕ, ◌-◌}
 use lib.Bits.{bit_xor}
-use borrow.Author.Rules.{rules}
 use Rattle.octets.specs.Xor.{xors}
 use Rattle.fips197.specs.Schedule.{sub_word, rot_word, power, rcon}
 use Rattle.fips197.proofs.ScheduleLaws.{temp-first, temp_middle, temp-short, temp_other}
-use Rattle.aes_schedule.specs.Place.{passed}
 use Rattle.aes_schedule.specs.Words.{bytes_of}
 use Rattle.aes_schedule.proofs.WordLaws.{xor_bytes}
 use Rattle.aes_schedule.proofs.ExpandLaws.{rcon-word, quotient_is, remainder_is}

@@ -1,7 +1,6 @@
 -- `aes_schedule::schedule::sub_word` meets its contract, by those of the functions that it calls.
 -- Assumes nothing.
 use mathlib.Core.Path.{ap, ◌∙◌}
-use borrow.Author.Rules.{rules}
 use Rattle.octets.specs.Strings.{table}
 use Rattle.field.specs.SBox.{s_box}
 use Rattle.fips197.specs.Schedule.{sub_word}

@@ -3,7 +3,6 @@
 use mathlib.Core.Path.{refl, ap, ap₂, ◌∙◌}
 use mathlib.Core.List.{List, ◌++◌}
 use Prim.Native.Nat.{ℕ}
-use borrow.Author.Rules.{rules}
 use Rattle.octets.specs.Xor.{xors}
 use Rattle.fips197.specs.Cipher.{inv_cipher}
 use Rattle.aes_schedule.specs.Words.{block_of}

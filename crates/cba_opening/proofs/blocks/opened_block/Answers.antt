@@ -1,6 +1,5 @@
 -- `cba_opening::blocks::opened_block` meets its contract, by those of the functions that it calls.
 -- Assumes nothing.
-use borrow.Author.Rules.{rules}
 use Rattle.fips197.specs.Cipher.{inv_cipher}
 use Rattle.cba_sealing.proofs.BlockLaws.{through-block}
 use Rattle.cba_opening.proofs.blocks.opened_block.Goals as goal

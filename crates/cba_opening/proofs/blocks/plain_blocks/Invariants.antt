@@ -1,12 +1,9 @@
 -- `cba_opening::blocks::plain_blocks` meets its contract: after i blocks, two a turn, i blocks are opened.
 -- Assumes nothing.
-use mathlib.Core.Path.{◌∙◌}
 use Prim.Native.Nat.{◌-◌}
-use native.Mathlib.Omega.{arith}
-use borrow.Author.Rules.{rules}
 use Rattle.fips197.specs.Cipher.{inv_cipher}
 use Rattle.cba_steps.specs.Halves.{halves_of}
-use Rattle.cba_sealing.proofs.BlockLaws.{Going, going_none, goes_on, goes_end, sum-none, sum_out, sum-out}
+use Rattle.cba_sealing.proofs.BlockLaws.{Going, sum_out}
 use Rattle.cba_opening.proofs.blocks.plain_blocks.Given as goal
 
 abbrev pub invariant-loop-i : goal.invariant-loop-i

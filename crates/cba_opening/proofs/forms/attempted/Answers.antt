@@ -1,6 +1,5 @@
 -- `cba_opening::forms::attempted` meets its contract, by those of the functions that it calls.
 -- Assumes nothing.
-use borrow.Author.Rules.{rules}
 use Rattle.cba_opening.proofs.forms.attempted.Goals as goal
 
 pub open_short-requires : goal.open_short-requires

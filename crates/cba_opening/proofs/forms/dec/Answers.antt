@@ -8,7 +8,6 @@ use Rattle.fips197.specs.Cipher.{cipher, inv_cipher}
 use Rattle.cba_mode.specs.Sets.{tag_bytes}
 use Rattle.cba_sealing.specs.Calls.{data_tag}
 use Rattle.cba_opening.proofs.OpenForms.{open_good, open_bad}
-use borrow.Author.Rules.{rules}
 use Rattle.cba_opening.proofs.forms.dec.Goals as goal
 
 pub returns-then-attempted : goal.returns-then-attempted

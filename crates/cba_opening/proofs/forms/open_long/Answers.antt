@@ -12,7 +12,6 @@ use Rattle.cba_sealing.proofs.PieceLaws.{take-size, tag_fits}
 use Rattle.cba_sealing.proofs.BeginLaws.{first-tag}
 use Rattle.cba_sealing.proofs.SealForms.{tag-size}
 use Rattle.cba_opening.proofs.OpenForms.{first-room, ends-after, long-turn}
-use borrow.Author.Rules.{rules}
 use Rattle.cba_opening.proofs.forms.open_long.Goals as goal
 
 pub overflow_sub-ciphertext : goal.overflow_sub-ciphertext

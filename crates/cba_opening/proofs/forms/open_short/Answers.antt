@@ -7,7 +7,6 @@ use lib.ListN.{length, length-take, length-drop}
 use Rattle.fips197.specs.Cipher.{cipher, inv_cipher}
 use Rattle.cba_sealing.specs.Calls.{data_tag}
 use Rattle.cba_opening.proofs.OpenForms.{short-turn}
-use borrow.Author.Rules.{rules}
 use Rattle.cba_opening.proofs.forms.open_short.Goals as goal
 
 pub overflow_sub-n : goal.overflow_sub-n

@@ -6,7 +6,6 @@ use Rattle.fips197.specs.Cipher.{cipher, inv_cipher}
 use Rattle.cba_steps.specs.Halves.{halves_of}
 use Rattle.cba_opening.specs.Calls.{end_as}
 use Rattle.cba_opening.proofs.AttemptLaws.{blocks-turn}
-use borrow.Author.Rules.{rules}
 use Rattle.cba_opening.proofs.forms.tail.Goals as goal
 
 pub open_blocks-s-requires : goal.open_blocks-s-requires

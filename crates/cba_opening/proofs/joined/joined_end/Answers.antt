@@ -6,7 +6,6 @@ use Rattle.fips197.specs.Cipher.{cipher, inv_cipher}
 use Rattle.aes_schedule.specs.Words.{block_of}
 use Rattle.cba_steps.specs.Halves.{halves_of}
 use Rattle.cba_opening.proofs.AttemptLaws.{joined_end_turn}
-use borrow.Author.Rules.{rules}
 use Rattle.cba_opening.proofs.joined.joined_end.Goals as goal
 
 pub slice_bounds-c-end : goal.slice_bounds-c-end

@@ -3,7 +3,6 @@
 use mathlib.Core.Path.{ap, ap₂, ◌∙◌}
 use Rattle.octets.specs.Xor.{xors}
 use Rattle.fips197.specs.Cipher.{cipher}
-use borrow.Author.Rules.{rules}
 use Rattle.cba_mode.specs.Open.{joined_plain}
 use Rattle.cba_opening.proofs.joined.joined_plain.Goals as goal
 

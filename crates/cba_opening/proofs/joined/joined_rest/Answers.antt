@@ -7,7 +7,6 @@ use lib.ListN.{length-take}
 use Rattle.fips197.specs.Cipher.{cipher, inv_cipher}
 use Rattle.cba_steps.specs.Halves.{halves_of}
 use Rattle.cba_opening.proofs.AttemptLaws.{joined-rest-turn}
-use borrow.Author.Rules.{rules}
 use Rattle.cba_opening.proofs.joined.joined_rest.Goals as goal
 
 pub slice_bounds-mask-length : goal.slice_bounds-mask-length

@@ -2,7 +2,6 @@
 -- Assumes nothing.
 use mathlib.Core.Path.{ap, ◌∙◌}
 use Rattle.octets.specs.Xor.{xors}
-use borrow.Author.Rules.{rules}
 use Rattle.cba_sealing.proofs.begin.full_tag.Goals as goal
 
 pub returns : goal.returns

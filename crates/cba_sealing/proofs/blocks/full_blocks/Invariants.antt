@@ -1,13 +1,10 @@
 -- `cba_sealing::blocks::full_blocks` meets its contract: after i blocks, two a turn, i blocks are sealed.
 -- Assumes nothing.
-use mathlib.Core.Path.{◌∙◌}
 use Prim.Native.Nat.{◌-◌}
-use native.Mathlib.Omega.{arith}
-use borrow.Author.Rules.{rules}
 use Rattle.fips197.specs.Cipher.{cipher}
 use Rattle.cba_steps.specs.Halves.{halves_of}
 use Rattle.cba_mode.specs.Seal.{checksum}
-use Rattle.cba_sealing.proofs.BlockLaws.{Going, going_none, goes_on, goes_end, sum-none, sum_in}
+use Rattle.cba_sealing.proofs.BlockLaws.{Going}
 use Rattle.cba_sealing.proofs.blocks.full_blocks.Given as goal
 
 abbrev pub invariant-loop-i : goal.invariant-loop-i

@@ -1,7 +1,6 @@
 -- `cba_sealing::blocks::seal_two` meets its contract.
 -- Assumes nothing.
 use mathlib.Core.Path.{refl, sym, ap, ap₂, ◌∙◌}
-use borrow.Author.Rules.{rules}
 use Rattle.octets.specs.Xor.{xors}
 use Rattle.octets.proofs.Xor.{xors-assoc}
 use Rattle.fips197.specs.Cipher.{cipher}

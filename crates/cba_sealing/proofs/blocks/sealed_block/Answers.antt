@@ -1,7 +1,6 @@
 -- `cba_sealing::blocks::sealed_block` meets its contract, by those of the functions that it calls.
 -- Assumes nothing.
 use mathlib.Core.Path.{◌∙◌}
-use borrow.Author.Rules.{rules}
 use Rattle.fips197.specs.Cipher.{cipher}
 use Rattle.cba_sealing.proofs.BlockLaws.{through-block}
 use Rattle.cba_sealing.proofs.blocks.sealed_block.Goals as goal

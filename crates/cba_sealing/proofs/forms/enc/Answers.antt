@@ -1,6 +1,5 @@
 -- `cba_sealing::forms::enc` meets its contract, by those of the functions that it calls.
 -- Assumes nothing.
-use borrow.Author.Rules.{rules}
 use Rattle.cba_sealing.proofs.forms.enc.Goals as goal
 
 pub seal_short-requires : goal.seal_short-requires

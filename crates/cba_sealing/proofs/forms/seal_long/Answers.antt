@@ -10,7 +10,6 @@ use Rattle.cba_sealing.specs.Calls.{data_tag}
 use Rattle.cba_sealing.proofs.PieceLaws.{take-size, tag_fits}
 use Rattle.cba_sealing.proofs.BeginLaws.{written-tag}
 use Rattle.cba_sealing.proofs.SealForms.{tag-size, long-turn}
-use borrow.Author.Rules.{rules}
 use Rattle.cba_sealing.proofs.forms.seal_long.Goals as goal
 
 pub ending_of-e-requires : goal.ending_of-e-requires

@@ -7,7 +7,6 @@ use Rattle.fips197.specs.Cipher.{cipher}
 use Rattle.cba_sealing.specs.Calls.{data_tag}
 use Rattle.cba_sealing.proofs.PieceLaws.{tag_fits, tag_taken}
 use Rattle.cba_sealing.proofs.SealForms.{short-turn}
-use borrow.Author.Rules.{rules}
 use Rattle.cba_sealing.proofs.forms.seal_short.Goals as goal
 
 pub cover-b-requires : goal.cover-b-requires

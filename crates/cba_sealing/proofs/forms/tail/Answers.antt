@@ -6,7 +6,6 @@ use Rattle.fips197.specs.Cipher.{cipher}
 use Rattle.cba_sealing.specs.Calls.{tail_as}
 use Rattle.cba_steps.specs.Halves.{halves_of}
 use Rattle.cba_sealing.proofs.TailLaws.{joined-tail-turn, separate_tail-turn}
-use borrow.Author.Rules.{rules}
 use Rattle.cba_sealing.proofs.forms.tail.Goals as goal
 
 pub full_blocks-s-requires : goal.full_blocks-s-requires

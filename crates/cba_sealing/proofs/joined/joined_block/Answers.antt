@@ -5,7 +5,6 @@ use Rattle.octets.specs.Xor.{xors}
 use Rattle.fips197.specs.Cipher.{cipher}
 use Rattle.cba_steps.specs.Halves.{halves_of}
 use Rattle.cba_sealing.proofs.TailLaws.{joined-block-turn}
-use borrow.Author.Rules.{rules}
 use Rattle.cba_sealing.proofs.joined.joined_block.Goals as goal
 
 pub encrypt-e-requires : goal.encrypt-e-requires

@@ -7,7 +7,6 @@ use Rattle.fips197.specs.Cipher.{cipher}
 use Rattle.aes_schedule.specs.Words.{block_of}
 use Rattle.cba_steps.specs.Halves.{halves_of}
 use Rattle.cba_sealing.proofs.TailLaws.{joined_end_turn}
-use borrow.Author.Rules.{rules}
 use Rattle.cba_sealing.proofs.joined.joined_end.Goals as goal
 
 pub joined_block-requires : goal.joined_block-requires

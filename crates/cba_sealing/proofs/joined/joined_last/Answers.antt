@@ -4,7 +4,6 @@ use mathlib.Core.Path.{ap, ap₂, ◌∙◌}
 use Rattle.octets.specs.Xor.{xors}
 use Rattle.fips197.specs.Cipher.{cipher}
 use Rattle.cba_mode.specs.Seal.{joined_last}
-use borrow.Author.Rules.{rules}
 use Rattle.cba_sealing.proofs.joined.joined_last.Goals as goal
 
 pub encrypt-requires : goal.encrypt-requires

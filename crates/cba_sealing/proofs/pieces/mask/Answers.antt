@@ -2,12 +2,11 @@
 -- Assumes nothing.
 use mathlib.Core.Path.{◌≡◌, refl, ap, ◌∙◌}
 use mathlib.Core.List.{List, ◌++◌}
-use Prim.Native.Nat.{ℕ, ◌+◌, ◌-◌, ◌≤◌}
-use lib.Bits.{bit_xor}
-use lib.ListN.{length, get_or, drop}
+use Prim.Native.Nat.{ℕ, ◌+◌, ◌≤◌}
+use lib.ListN.{length, drop}
 use native.Mathlib.Omega.{arith}
 use borrow.Author.Rules.{rules}
-use Rattle.octets.proofs.Strings.{Filled, fill_none, fill_turn, filled}
+use Rattle.octets.proofs.Strings.{fill_none, fill_turn, filled}
 use Rattle.octets.proofs.Xor.{xors-part}
 use Rattle.cba_sealing.proofs.pieces.mask.Goals as goal
 

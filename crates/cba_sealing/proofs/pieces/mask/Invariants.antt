@@ -1,14 +1,9 @@
 -- `cba_sealing::pieces::mask` meets its contract: after i turns the first i bytes are masked.
 -- Assumes nothing.
-use mathlib.Core.Path.{◌≡◌, refl, ap, ◌∙◌}
-use mathlib.Core.List.{List, ◌++◌}
-use Prim.Native.Nat.{ℕ, ◌+◌, ◌-◌, ◌≤◌}
+use Prim.Native.Nat.{◌+◌, ◌-◌}
 use lib.Bits.{bit_xor}
-use lib.ListN.{length, get_or, drop}
-use native.Mathlib.Omega.{arith}
-use borrow.Author.Rules.{rules}
-use Rattle.octets.proofs.Strings.{Filled, fill_none, fill_turn, filled}
-use Rattle.octets.proofs.Xor.{xors-part}
+use lib.ListN.{length, get_or}
+use Rattle.octets.proofs.Strings.{Filled}
 use Rattle.cba_sealing.proofs.pieces.mask.Given as goal
 
 abbrev pub invariant-loop-i : goal.invariant-loop-i

@@ -1,6 +1,5 @@
 -- `cba_sealing::pieces::right_aligned` meets its contract: the string is the end of the block.
 -- Assumes nothing.
-use borrow.Author.Rules.{rules}
 use Rattle.cba_sealing.proofs.PieceLaws.{right_put}
 use Rattle.cba_sealing.proofs.pieces.right_aligned.Goals as goal
 

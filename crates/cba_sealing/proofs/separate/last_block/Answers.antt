@@ -5,7 +5,6 @@ use Rattle.octets.specs.Xor.{xors}
 use Rattle.fips197.specs.Cipher.{cipher}
 use Rattle.cba_steps.specs.Halves.{halves_of}
 use Rattle.cba_sealing.proofs.TailLaws.{last-block-turn}
-use borrow.Author.Rules.{rules}
 use Rattle.cba_sealing.proofs.separate.last_block.Goals as goal
 
 pub right_aligned-requires : goal.right_aligned-requires

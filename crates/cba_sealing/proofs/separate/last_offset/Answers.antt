@@ -4,7 +4,6 @@ use mathlib.Core.Path.{ap, ◌∙◌}
 use Rattle.cba_mode.specs.Offsets.{F}
 use Rattle.cba_mode.specs.Seal.{last_offset}
 use borrow.Author.Tests.{lt-ltb, le-ltb}
-use borrow.Author.Rules.{rules}
 use Rattle.cba_sealing.proofs.separate.last_offset.Goals as goal
 
 pub returns-then-n-lt16 : goal.returns-then-n-lt16

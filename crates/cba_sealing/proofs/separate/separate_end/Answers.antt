@@ -6,7 +6,6 @@ use Rattle.fips197.specs.Cipher.{cipher}
 use Rattle.aes_schedule.specs.Words.{block_of}
 use Rattle.cba_steps.specs.Halves.{halves_of}
 use Rattle.cba_sealing.proofs.TailLaws.{separate_end_turn}
-use borrow.Author.Rules.{rules}
 use Rattle.cba_sealing.proofs.separate.separate_end.Goals as goal
 
 pub last_block-requires : goal.last_block-requires

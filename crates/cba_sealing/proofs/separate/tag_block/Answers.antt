@@ -3,7 +3,6 @@
 use mathlib.Core.Path.{ap, ap₂, ◌∙◌}
 use Rattle.octets.specs.Xor.{xors}
 use Rattle.fips197.specs.Cipher.{cipher}
-use borrow.Author.Rules.{rules}
 use Rattle.cba_sealing.proofs.separate.tag_block.Goals as goal
 
 pub right_aligned-requires : goal.right_aligned-requires

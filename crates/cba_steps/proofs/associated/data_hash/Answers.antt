@@ -5,7 +5,6 @@ use mathlib.Core.List.{List}
 use Prim.Native.Nat.{ℕ}
 use native.Mathlib.Omega.{arith}
 use lib.ListN.{replicate}
-use borrow.Author.Rules.{rules}
 use Rattle.fips197.specs.Cipher.{cipher}
 use Rattle.cba_mode.specs.Offsets.{start}
 use Rattle.cba_mode.specs.Data.{data_sum, L, data_hash}

@@ -1,6 +1,5 @@
 -- `cba_steps::associated::with_rest` meets its contract: an empty rest adds nothing.
 -- Assumes nothing.
-use borrow.Author.Rules.{rules}
 use Rattle.fips197.specs.Cipher.{cipher}
 use Rattle.cba_steps.specs.Halves.{halves_of}
 use Rattle.cba_steps.proofs.DataLaws.{with_rest-none, rest-turn}

@@ -1,7 +1,6 @@
 -- `cba_steps::endings::ending_of` meets its contract, form by form.
 -- Assumes nothing.
 use native.Mathlib.Omega.{arith}
-use borrow.Author.Rules.{rules}
 use Rattle.cba_mode.proofs.FormLaws.{seal_one, seal_joined, seal_long}
 use Rattle.cba_steps.proofs.endings.ending_of.Goals as goal
 

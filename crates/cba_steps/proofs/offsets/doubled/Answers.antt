@@ -1,6 +1,5 @@
 -- `cba_steps::offsets::doubled` meets its contract: each half by two.
 -- Assumes nothing.
-use borrow.Author.Rules.{rules}
 use Rattle.cba_mode.specs.Offsets.{times}
 use Rattle.cba_mode.proofs.OffsetLaws.{F-halves}
 use Rattle.cba_steps.proofs.offsets.doubled.Goals as goal

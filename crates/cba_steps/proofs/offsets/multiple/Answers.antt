@@ -1,7 +1,6 @@
 -- `cba_steps::offsets::multiple` meets its contract, by the cases of the definition.
 -- Assumes nothing.
 use mathlib.Core.Path.{sym, ap, ◌∙◌}
-use borrow.Author.Rules.{rules}
 use Rattle.cba_mode.specs.Offsets.{two, three, four, five, six, times}
 use Rattle.cba_mode.proofs.OffsetLaws.{times-at, times_other}
 use Rattle.cba_steps.proofs.offsets.multiple.Goals as goal

@@ -1,11 +1,8 @@
 -- `cba_steps::offsets::pad` meets its contract: after i turns the first i bytes are padded.
 -- Assumes nothing.
 use mathlib.Core.Path.{refl, ◌∙◌}
-use mathlib.Core.List.{◌++◌, ◌∷◌}
-use Prim.Native.Nat.{◌-◌}
-use lib.ListN.{get_or, replicate}
 use borrow.Author.Rules.{rules}
-use Rattle.octets.proofs.Strings.{Filled, fill_none, fill_value, filled-whole}
+use Rattle.octets.proofs.Strings.{fill_none, fill_value, filled-whole}
 use Rattle.cba_steps.proofs.StartLaws.{pad-table}
 use Rattle.cba_steps.proofs.offsets.pad.Goals as goal
 

@@ -1,6 +1,5 @@
 -- `cba_steps::offsets::step` meets its contract: each half by its multiplier.
 -- Assumes nothing.
-use borrow.Author.Rules.{rules}
 use Rattle.cba_mode.proofs.OffsetLaws.{F-halves}
 use Rattle.cba_steps.proofs.offsets.step.Goals as goal
 

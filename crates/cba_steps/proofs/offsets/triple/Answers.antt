@@ -1,6 +1,5 @@
 -- `cba_steps::offsets::triple` meets its contract.
 -- Assumes nothing.
-use borrow.Author.Rules.{rules}
 use Rattle.cba_mode.proofs.OffsetLaws.{triple_number}
 use Rattle.cba_steps.proofs.offsets.triple.Goals as goal
 

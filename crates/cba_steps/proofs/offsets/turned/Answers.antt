@@ -1,7 +1,6 @@
 -- `cba_steps::offsets::turned` meets its contract.
 -- Assumes nothing.
 use mathlib.Core.Path.{◌∙◌}
-use borrow.Author.Rules.{rules}
 use Rattle.cba_steps.proofs.WordLaws.{turned-digits}
 use Rattle.cba_steps.proofs.offsets.turned.Goals as goal
 

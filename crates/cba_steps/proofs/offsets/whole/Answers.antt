@@ -1,7 +1,6 @@
 -- `cba_steps::offsets::whole` meets its contract.
 -- Assumes nothing.
 use mathlib.Core.Path.{◌∙◌}
-use borrow.Author.Rules.{rules}
 use Rattle.cba_steps.proofs.offsets.whole.Goals as goal
 
 pub returns : goal.returns

@@ -2,7 +2,6 @@
 -- Assumes nothing.
 use mathlib.Core.Path.{ap₂}
 use mathlib.Core.List.{◌++◌}
-use borrow.Author.Rules.{rules}
 use Rattle.cba_steps.proofs.WordLaws.{half-words}
 use Rattle.cba_steps.proofs.offsets.words.Goals as goal
 

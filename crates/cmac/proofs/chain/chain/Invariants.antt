@@ -1,9 +1,8 @@
 -- `cmac::chain::chain` meets its contract: after i turns X is that of the first i blocks.
 -- Assumes nothing.
 use Prim.Native.Nat.{◌-◌}
-use borrow.Author.Rules.{rules}
 use Rattle.fips197.specs.Cipher.{cipher}
-use Rattle.cmac.proofs.ChainLaws.{Chained, chained_none, chained_turn, chained_all}
+use Rattle.cmac.proofs.ChainLaws.{Chained}
 use Rattle.cmac.proofs.chain.chain.Given as goal
 
 abbrev pub invariant-loop-i : goal.invariant-loop-i

@@ -1,6 +1,5 @@
 -- `cmac::chain::code` meets its contract: the chain, the last block, and the last encryption.
 -- Assumes nothing.
-use borrow.Author.Rules.{rules}
 use Rattle.cmac.proofs.ChainLaws.{code_is}
 use Rattle.cmac.proofs.chain.code.Goals as goal
 

@@ -1,6 +1,5 @@
 -- `cmac::chain::last_block` meets its contract: a full block and one that is padded.
 -- Assumes nothing.
-use borrow.Author.Rules.{rules}
 use Rattle.cmac.proofs.ChainLaws.{last-full, last-padded}
 use Rattle.cmac.proofs.chain.last_block.Goals as goal
 

@@ -4,7 +4,6 @@ use mathlib.Core.Path.{◌≡◌, sym, ◌∙◌}
 use mathlib.Core.Bool.{cond}
 use native.Mathlib.Omega.{arith}
 use lib.ListN.{length, take, length-take}
-use borrow.Author.Rules.{rules}
 use Rattle.cmac_rules.specs.Marks.{CheckCall}
 use Rattle.cmac_rules.specs.Theorems.{Given}
 use Rattle.cmac_rules.proofs.MarkLaws.{answered-given}

@@ -2,8 +2,6 @@
 -- Assumes nothing.
 use mathlib.Core.Path.{◌≡◌, sym, ◌∙◌}
 use mathlib.Core.Bool.{true}
-use borrow.Author.Rules.{rules}
-use Rattle.answers.proofs.RowLaws.{not-false, not-true}
 use Rattle.fips197.specs.Schedule.{is_key}
 use Rattle.cmac.proofs.AnswerLaws.{no_key, long_log, short-mark, long-mark, good-mark}
 use Rattle.cmac.proofs.marks.checks.Goals as goal

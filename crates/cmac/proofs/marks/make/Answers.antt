@@ -3,7 +3,6 @@
 use mathlib.Core.Path.{sym, ◌∙◌}
 use native.Mathlib.Omega.{arith}
 use lib.ListN.{length, length-take}
-use borrow.Author.Rules.{rules}
 use Rattle.cmac_rules.specs.Theorems.{Given}
 use Rattle.cmac_rules.proofs.MarkLaws.{answered-given}
 use Rattle.cmac.proofs.AnswerLaws.{make_refused, make_no-room, made}

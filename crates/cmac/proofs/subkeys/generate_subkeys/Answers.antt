@@ -1,7 +1,6 @@
 -- `cmac::subkeys::generate_subkeys` meets its contract: L twice, and twice again.
 -- Assumes nothing.
 use mathlib.Core.Path.{ap, ◌∙◌}
-use borrow.Author.Rules.{rules}
 use Rattle.cmac_rules.specs.Cmac.{double, L, K1, K2}
 use Rattle.cmac.proofs.subkeys.generate_subkeys.Goals as goal
 

@@ -2,10 +2,10 @@
 -- Assumes nothing.
 use mathlib.Core.Path.{ap, ◌∙◌}
 use mathlib.Core.List.{List, ◌++◌}
-use Prim.Native.Nat.{ℕ, ◌-◌}
+use Prim.Native.Nat.{ℕ}
 use lib.ListN.{drop}
 use borrow.Author.Rules.{rules}
-use Rattle.octets.proofs.Strings.{Filled, fill_none, fill_turn, filled}
+use Rattle.octets.proofs.Strings.{fill_none, fill_turn, filled}
 use Rattle.octets.proofs.CompareLaws.{zeros}
 use Rattle.octets.proofs.compare.clear.Goals as goal
 

@@ -1,12 +1,7 @@
 -- `octets::compare::clear` meets its contract: after i turns the first i bytes are zeros.
 -- Assumes nothing.
-use mathlib.Core.Path.{ap, ◌∙◌}
-use mathlib.Core.List.{List, ◌++◌}
-use Prim.Native.Nat.{ℕ, ◌-◌}
-use lib.ListN.{drop}
-use borrow.Author.Rules.{rules}
-use Rattle.octets.proofs.Strings.{Filled, fill_none, fill_turn, filled}
-use Rattle.octets.proofs.CompareLaws.{zeros}
+use Prim.Native.Nat.{◌-◌}
+use Rattle.octets.proofs.Strings.{Filled}
 use Rattle.octets.proofs.compare.clear.Given as goal
 
 abbrev pub invariant-loop-i : goal.invariant-loop-i

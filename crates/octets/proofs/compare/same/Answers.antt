@@ -1,9 +1,6 @@
 -- `octets::compare::same` meets its contract: after i turns the first i bytes are compared.
 -- Assumes nothing.
-use Prim.Native.Nat.{◌-◌}
-use lib.ListN.{length}
-use borrow.Author.Rules.{rules}
-use Rattle.octets.proofs.CompareLaws.{Compared, compared-none, compared-turn, compared-all}
+use Rattle.octets.proofs.CompareLaws.{compared-none, compared-turn, compared-all}
 use Rattle.octets.proofs.compare.same.Goals as goal
 
 pub loop-i-init : goal.loop-i-init

@@ -2,8 +2,7 @@
 -- Assumes nothing.
 use Prim.Native.Nat.{◌-◌}
 use lib.ListN.{length}
-use borrow.Author.Rules.{rules}
-use Rattle.octets.proofs.CompareLaws.{Compared, compared-none, compared-turn, compared-all}
+use Rattle.octets.proofs.CompareLaws.{Compared}
 use Rattle.octets.proofs.compare.same.Given as goal
 
 abbrev pub invariant-loop-i : goal.invariant-loop-i

@@ -2,7 +2,6 @@
 -- Assumes nothing.
 use mathlib.Core.Path.{sym, ◌∙◌}
 use mathlib.Core.List.{[]}
-use borrow.Author.Rules.{rules}
 use Rattle.answers.proofs.RowLaws.{accepts, refuses}
 use Rattle.cba_rules.proofs.RefusalLaws.{has_length, other_length}
 use Rattle.plain.proofs.checks.key_check.Goals as goal

@@ -1,6 +1,5 @@
 -- `plain::open::open_checks` meets its contract: its groups put together.
 -- Assumes nothing.
-use borrow.Author.Rules.{rules}
 use Rattle.cba_mode.specs.Sets.{tag_bytes}
 use Rattle.cba_rules.specs.Checks.{ciphertext_rows}
 use Rattle.plain.proofs.AnswerLaws.{groups}

@@ -1,6 +1,5 @@
 -- `plain::open::open_plain` meets its contract.
 -- Assumes nothing.
-use borrow.Author.Rules.{rules}
 use Rattle.plain.proofs.AnswerLaws.{open_unknown}
 use Rattle.plain.proofs.open.open_plain.Goals as goal
 

@@ -1,6 +1,5 @@
 -- `plain::seal::seal_plain` meets its contract.
 -- Assumes nothing.
-use borrow.Author.Rules.{rules}
 use Rattle.plain.proofs.AnswerLaws.{seal_unknown}
 use Rattle.plain.proofs.seal.seal_plain.Goals as goal
 

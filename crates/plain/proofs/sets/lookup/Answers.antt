@@ -1,6 +1,5 @@
 -- `plain::sets::lookup` meets its contract: the constant rows are those of the definition.
 -- Assumes nothing.
-use borrow.Author.Rules.{rules}
 use Rattle.cba_mode.specs.Sets.{column}
 use Rattle.plain.proofs.SetLaws.{below_set, above-set, known, unknown}
 use Rattle.plain.proofs.sets.lookup.Goals as goal

@@ -1,11 +1,7 @@
 -- `text::decimal::all_digits` meets its contract: after i turns the first i bytes are digits.
 -- Assumes nothing.
 use mathlib.Core.Path.{sym, ◌∙◌}
-use Prim.Native.Nat.{◌-◌}
-use lib.ListN.{length}
-use borrow.Author.Rules.{rules}
-use borrow.Author.Tests.{not-true, not-false}
-use Rattle.text.proofs.DecimalLaws.{Passed, passed_none, passed-turn, passed-not, passed-all}
+use Rattle.text.proofs.DecimalLaws.{passed_none, passed-turn, passed-not, passed-all}
 use Rattle.text.proofs.decimal.all_digits.Goals as goal
 
 pub loop-i-init : goal.loop-i-init

@@ -1,10 +1,7 @@
 -- `text::decimal::set_number` meets its contract: after i turns it is the number of the first i digits.
 -- Assumes nothing.
-use Prim.Native.Nat.{◌-◌}
 use native.Mathlib.Omega.{arith}
-use lib.ListN.{length}
-use borrow.Author.Rules.{rules}
-use Rattle.text.proofs.DecimalLaws.{Read, read_none, read-room, read-turn, read_all, set-digit}
+use Rattle.text.proofs.DecimalLaws.{read_none, read-room, read-turn, read_all, set-digit}
 use Rattle.text.proofs.decimal.set_number.Goals as goal
 
 pub loop-i-init : goal.loop-i-init

@@ -1,10 +1,8 @@
 -- `text::decimal::set_number` meets its contract: after i turns it is the number of the first i digits.
 -- Assumes nothing.
 use Prim.Native.Nat.{◌-◌}
-use native.Mathlib.Omega.{arith}
 use lib.ListN.{length}
-use borrow.Author.Rules.{rules}
-use Rattle.text.proofs.DecimalLaws.{Read, read_none, read-room, read-turn, read_all, set-digit}
+use Rattle.text.proofs.DecimalLaws.{Read}
 use Rattle.text.proofs.decimal.set_number.Given as goal
 
 abbrev pub invariant-loop-i : goal.invariant-loop-i

@@ -1,6 +1,5 @@
 -- `text::hex::hex_digit` meets its contract.
 -- Assumes nothing.
-use borrow.Author.Rules.{rules}
 use Rattle.text.proofs.HexLaws.{digit-ten, digit_letter}
 use Rattle.text.proofs.hex.hex_digit.Goals as goal
 

@@ -1,7 +1,6 @@
 -- `text::hex::is_value` meets its contract.
 -- Assumes nothing.
 use mathlib.Core.Path.{◌∙◌}
-use borrow.Author.Rules.{rules}
 use Rattle.text.proofs.HexLaws.{value_none, value-dash, value-pairs}
 use Rattle.text.proofs.hex.is_value.Goals as goal
 

@@ -1,10 +1,8 @@
 -- `text::hex::put_hex` meets its contract: after i turns the first i bytes stand in hex.
 -- Assumes nothing.
 use Prim.Native.Nat.{◌-◌}
-use native.Mathlib.Omega.{arith}
-use lib.ListN.{length, length-set}
-use borrow.Author.Rules.{rules}
-use Rattle.text.proofs.HexLaws.{Shown, shown-none, shown-turn, shown-all}
+use lib.ListN.{length}
+use Rattle.text.proofs.HexLaws.{Shown}
 use Rattle.text.proofs.hex.put_hex.Given as goal
 
 abbrev pub invariant-loop-i : goal.invariant-loop-i

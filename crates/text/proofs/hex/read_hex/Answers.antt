@@ -2,11 +2,10 @@
 -- Assumes nothing.
 use mathlib.Core.Path.{ap, ap₂, ◌∙◌}
 use mathlib.Core.List.{List, ◌++◌}
-use Prim.Native.Nat.{ℕ, ◌+◌, ◌-◌, ◌*◌, ◌/◌}
+use Prim.Native.Nat.{ℕ, ◌+◌, ◌*◌, ◌/◌}
 use lib.ListN.{length, drop}
-use borrow.Author.Rules.{rules}
-use Rattle.octets.proofs.Strings.{Filled, fill_none, fill_value, filled}
-use Rattle.text.proofs.HexLaws.{pair-at, pair_at, unhex-table}
+use Rattle.octets.proofs.Strings.{fill_none, fill_value, filled}
+use Rattle.text.proofs.HexLaws.{pair-at, unhex-table}
 use Rattle.text.proofs.hex.read_hex.Goals as goal
 
 pub loop-i-init : goal.loop-i-init

@@ -1,6 +1,5 @@
 -- `text::hex::read_value` meets its contract.
 -- Assumes nothing.
-use borrow.Author.Rules.{rules}
 use Rattle.text.proofs.HexLaws.{are-pairs, read-dash, read_pairs}
 use Rattle.text.proofs.hex.read_value.Goals as goal
 

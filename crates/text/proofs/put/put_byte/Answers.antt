@@ -1,7 +1,6 @@
 -- `text::put::put_byte` meets its contract.
 -- Assumes nothing.
 use mathlib.Core.Path.{refl}
-use borrow.Author.Rules.{rules}
 use lib.Seq.{set_split}
 use Rattle.text.proofs.put.put_byte.Goals as goal
 
