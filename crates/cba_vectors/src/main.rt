@@ -8,7 +8,7 @@
 
 ghost use Rattle.std.specs.Prelude.{◌≤◌};
 
-use libc::STDIN_FILENO;
+use std::io::Read;
 
 fn least(a: usize, b: usize) -> usize
     ensures { (result ≤ a) × (result ≤ b) }
@@ -17,14 +17,14 @@ fn least(a: usize, b: usize) -> usize
 }
 
 // The first bytes of a block, as many as a tag of so many bits has.
-fn print_tag(h: [u8; 16], bits: u8) {
+fn print_tag(rt: &impl Print, h: [u8; 16], bits: u8) {
     let n = least((bits / 8) as usize, 16);
-    show::bytes(&h[..n]);
-    show::line_end();
+    show::bytes(rt, &h[..n]);
+    show::line_end(rt);
 }
 
 // T_A under a set and a key, where both are good.
-fn print_data_tag(set: u8, key: &[u8], ad: &[u8]) {
+fn print_data_tag(rt: &impl Print, set: u8, key: &[u8], ad: &[u8]) {
     let plain::Set::Known(p) = plain::lookup(set as u32) else {
         return;
     };
@@ -34,7 +34,7 @@ fn print_data_tag(set: u8, key: &[u8], ad: &[u8]) {
     if aes::is_key(key) {
         let mut ctx = aes::blank();
         aes::fill(key, &mut ctx);
-        print_tag(cba_steps::data_hash(key, &ctx, p, ad), p.tau);
+        print_tag(rt, cba_steps::data_hash(key, &ctx, p, ad), p.tau);
     }
 }
 
@@ -43,24 +43,25 @@ fn two_bytes(a: u8, b: u8) -> usize {
 }
 
 // Reads the key and the data of a record into the buffers that are lent.
-fn record(head: [u8; 4], key: &mut [u8], ad: &mut [u8]) {
+fn record(rt: &impl Print, input: &mut impl Read, head: [u8; 4], key: &mut [u8], ad: &mut [u8]) {
     let k = least(head[1] as usize, key.len());
     let n = least(two_bytes(head[2], head[3]), ad.len());
-    io::read_full(STDIN_FILENO, &mut key[..k]);
-    io::read_full(STDIN_FILENO, &mut ad[..n]);
-    print_data_tag(head[0], &key[..k], &ad[..n]);
+    let _ = input.read_exact(&mut key[..k]);
+    let _ = input.read_exact(&mut ad[..n]);
+    print_data_tag(rt, head[0], &key[..k], &ad[..n]);
 }
 
-fn main() {
+fn main(rt: HostRuntime) {
+    let mut input = rt.stdin();
     let mut turns = 0u32;
     while turns < 10000 {
         let mut head = [0u8; 4];
         let mut key = [0u8; 32];
-        let mut ad = io::buffer();
-        if io::read_full(STDIN_FILENO, &mut head) < 4 {
+        let mut ad = [0u8; 4096];
+        if input.read_exact(&mut head).is_err() {
             return;
         }
-        record(head, &mut key, &mut ad);
+        record(&rt, &mut input, head, &mut key, &mut ad);
         turns += 1;
     }
 }

@@ -10,73 +10,74 @@
 ghost use Rattle.std.specs.Prelude.{◌≤◌, length};
 ghost use Rattle.aes.specs.Context.{Encrypts};
 
-use libc::STDOUT_FILENO;
-
 // A name, a space, bytes and the line's end.
-fn print_line(name: &[u8], s: &[u8]) {
-    io::write_all(STDOUT_FILENO, name);
-    show::space();
-    show::bytes(s);
-    show::line_end();
+fn print_line(rt: &impl Print, name: &[u8], s: &[u8]) {
+    show::text(rt, name);
+    show::space(rt);
+    show::bytes(rt, s);
+    show::line_end(rt);
 }
 
 // L and the subkeys.
-fn print_subkeys(key: &[u8], ctx: &aes::Context)
+fn print_subkeys(rt: &impl Print, key: &[u8], ctx: &aes::Context)
     requires { Encrypts key.now ctx.now }
 {
     let l = aes::encrypt(key, ctx, [0; 16]);
-    print_line(b"L", &l);
+    print_line(rt, b"L", &l);
     let s = cmac::generate_subkeys(key, ctx);
     let k1 = s.k1;
-    print_line(b"K1", &k1);
+    print_line(rt, b"K1", &k1);
     let k2 = s.k2;
-    print_line(b"K2", &k2);
+    print_line(rt, b"K2", &k2);
 }
 
 // The length of a start of the message, and its code.
-fn print_code(key: &[u8], ctx: &aes::Context, message: &[u8], n: usize)
+fn print_code(rt: &impl Print, key: &[u8], ctx: &aes::Context, message: &[u8], n: usize)
     requires encrypts { Encrypts key.now ctx.now }
     requires n_in_bounds { n ≤ length message.now }
 {
     let t = cmac::code(key, ctx, &message[..n]);
-    io::print_decimal(STDOUT_FILENO, n as u64);
-    show::space();
-    show::bytes(&t);
-    show::line_end();
+    show::number(rt, n as u64);
+    show::space(rt);
+    show::bytes(rt, &t);
+    show::line_end(rt);
 }
 
 // All lines of a key, under its name.
-fn example(name: &[u8], key: &[u8], message: &[u8])
+fn example(rt: &impl Print, name: &[u8], key: &[u8], message: &[u8])
     requires { 64 ≤ length message.now }
 {
-    print_line(name, key);
+    print_line(rt, name, key);
     if aes::is_key(key) {
         let mut ctx = aes::blank();
         aes::fill(key, &mut ctx);
-        print_subkeys(key, &ctx);
-        print_code(key, &ctx, message, 0);
-        print_code(key, &ctx, message, 16);
-        print_code(key, &ctx, message, 20);
-        print_code(key, &ctx, message, 40);
-        print_code(key, &ctx, message, 64);
+        print_subkeys(rt, key, &ctx);
+        print_code(rt, key, &ctx, message, 0);
+        print_code(rt, key, &ctx, message, 16);
+        print_code(rt, key, &ctx, message, 20);
+        print_code(rt, key, &ctx, message, 40);
+        print_code(rt, key, &ctx, message, 64);
     }
 }
 
-fn main() {
+fn main(rt: HostRuntime) {
     let message =
         b"\x6b\xc1\xbe\xe2\x2e\x40\x9f\x96\xe9\x3d\x7e\x11\x73\x93\x17\x2a\xae\x2d\x8a\x57\x1e\x03\xac\x9c\x9e\xb7\x6f\xac\x45\xaf\x8e\x51\x30\xc8\x1c\x46\xa3\x5c\xe4\x11\xe5\xfb\xc1\x19\x1a\x0a\x52\xef\xf6\x9f\x24\x45\xdf\x4f\x9b\x17\xad\x2b\x41\x7b\xe6\x6c\x37\x10";
     let m = &message[..];
     example(
+        &rt,
         b"AES-128",
         b"\x2b\x7e\x15\x16\x28\xae\xd2\xa6\xab\xf7\x15\x88\x09\xcf\x4f\x3c",
         m,
     );
     example(
+        &rt,
         b"AES-192",
         b"\x8e\x73\xb0\xf7\xda\x0e\x64\x52\xc8\x10\xf3\x2b\x80\x90\x79\xe5\x62\xf8\xea\xd2\x52\x2c\x6b\x7b",
         m,
     );
     example(
+        &rt,
         b"AES-256",
         b"\x60\x3d\xeb\x10\x15\xca\x71\xbe\x2b\x73\xae\xf0\x85\x7d\x77\x81\x1f\x35\x2c\x07\x3b\x61\x08\xd7\x2d\x98\x10\xa3\x09\x14\xdf\xf4",
         m,

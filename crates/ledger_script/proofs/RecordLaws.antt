@@ -6,7 +6,7 @@ use Prim.Native.Nat.{ℕ, ◌+◌, ◌*◌, min}
 use lib.ListN.{length, get_or, set}
 use Rattle.octets.proofs.Strings.{length-table}
 use Rattle.script.specs.Strings.{seeded, filled}
-use Rattle.script.specs.Records.{two, four, eight, flag, part}
+use Rattle.script.specs.Records.{two, four, flag, part}
 use Rattle.ledger_rules.specs.Ledger.{Ledger, no_headings, made_ledger, next_ledger, kept_ledger}
 use Rattle.ledger_rules.specs.Ledger.Source.{given, named}
 use Rattle.ledger.specs.declared.ledger.Heading as heading

@@ -32,8 +32,8 @@ ghost use Rattle.ledger_script.specs.Records.{made_by, put_by, held_by, kept_by,
 
 use crate::lines::{print_call, print_ledger};
 use ledger::{Heading, Ledger, NOTHING, Outcome};
-use libc::STDIN_FILENO;
 use script::{fill, key_of, least, length, long_number, number, print_number, print_output};
+use std::io::Read;
 
 fn short_number(a: u8, b: u8) -> u16
     ensures { result ≡ a * 256 + b }
@@ -41,7 +41,7 @@ fn short_number(a: u8, b: u8) -> u16
     (a as u16) * 256 + b as u16
 }
 
-fn made(r: [u8; 64]) -> Ledger
+fn made(rt: &impl Print, r: [u8; 64]) -> Ledger
     ensures { value_of result ≡ made_by r }
 {
     let end = 8 + least(r[7] as usize, 56);
@@ -49,10 +49,10 @@ fn made(r: [u8; 64]) -> Ledger
     let console = short_number(r[5], r[6]);
     let m = ledger::make(set, &r[8..end], console);
     let l = m.ledger;
-    print_call(0);
-    print_number(m.answer as u64);
-    print_ledger(l);
-    show::line_end();
+    print_call(rt, 0);
+    print_number(rt, m.answer as u64);
+    print_ledger(rt, l);
+    show::line_end(rt);
     l
 }
 
@@ -90,17 +90,17 @@ fn hand_made(r: [u8; 64]) -> Ledger
     }
 }
 
-fn put(r: [u8; 64]) -> Ledger
+fn put(rt: &impl Print, r: [u8; 64]) -> Ledger
     ensures { value_of result ≡ put_by r }
 {
     let l = hand_made(r);
-    print_call(1);
-    print_ledger(l);
-    show::line_end();
+    print_call(rt, 1);
+    print_ledger(rt, l);
+    show::line_end(rt);
     l
 }
 
-fn hold(l: Ledger, r: [u8; 64]) -> Ledger
+fn hold(rt: &impl Print, l: Ledger, r: [u8; 64]) -> Ledger
     ensures { value_of result ≡ held_by (value_of l) r }
 {
     let i = least(r[1] as usize, 7);
@@ -110,51 +110,51 @@ fn hold(l: Ledger, r: [u8; 64]) -> Ledger
         kept: r[2] != 0,
         sum: sum,
     };
-    print_call(4);
-    print_ledger(after);
-    show::line_end();
+    print_call(rt, 4);
+    print_ledger(rt, after);
+    show::line_end(rt);
     after
 }
 
 // A call's answer and the ledger after it.
-fn print_outcome(kind: u8, s: Outcome) {
-    print_call(kind);
-    print_number(s.answer as u64);
+fn print_outcome(rt: &impl Print, kind: u8, s: Outcome) {
+    print_call(rt, kind);
+    print_number(rt, s.answer as u64);
     let l = s.ledger;
-    print_ledger(l);
+    print_ledger(rt, l);
 }
 
-fn print_sealed(kind: u8, s: Outcome, out: &[u8]) {
-    print_outcome(kind, s);
-    print_output(out);
-    show::line_end();
+fn print_sealed(rt: &impl Print, kind: u8, s: Outcome, out: &[u8]) {
+    print_outcome(rt, kind, s);
+    print_output(rt, out);
+    show::line_end(rt);
 }
 
 // A keeping of data that have the record's length.
-fn keep(l: Ledger, r: [u8; 64], ad: &mut [u8]) -> Ledger
+fn keep(rt: &impl Print, l: Ledger, r: [u8; 64], ad: &mut [u8]) -> Ledger
     ensures { value_of result ≡ kept_by (value_of l) r (length ad.old) }
 {
     fill(ad, r[8]);
     let name = number(r[1], r[2], r[3], r[4]);
     let s = l.keep(name, ad);
-    print_outcome(5, s);
-    show::line_end();
+    print_outcome(rt, 5, s);
+    show::line_end(rt);
     let next = s.ledger;
     next
 }
 
 // The same in a buffer, of which it takes as much as the record says.
-fn keep_in(l: Ledger, r: [u8; 64], ad: &mut [u8]) -> Ledger {
+fn keep_in(rt: &impl Print, l: Ledger, r: [u8; 64], ad: &mut [u8]) -> Ledger {
     let h = least(length(r[5], r[6], r[7]), ad.len());
-    keep(l, r, &mut ad[..h])
+    keep(rt, l, r, &mut ad[..h])
 }
 
-fn carry(l: Ledger) -> Ledger
+fn carry(rt: &impl Print, l: Ledger) -> Ledger
     ensures { value_of result ≡ carried_ledger (value_of l) }
 {
     let s = l.carry_over();
-    print_outcome(7, s);
-    show::line_end();
+    print_outcome(rt, 7, s);
+    show::line_end(rt);
     let next = s.ledger;
     next
 }
@@ -181,7 +181,14 @@ fn seal_by(kind: u8, l: Ledger, nonce: &[u8], ad: &[u8], message: &[u8], out: &m
 }
 
 // A sealing of strings that have the record's lengths.
-fn seal(l: Ledger, r: [u8; 64], ad: &mut [u8], message: &mut [u8], out: &mut [u8]) -> Ledger
+fn seal(
+    rt: &impl Print,
+    l: Ledger,
+    r: [u8; 64],
+    ad: &mut [u8],
+    message: &mut [u8],
+    out: &mut [u8],
+) -> Ledger
     ensures { value_of result ≡ sealed_by (value_of l) r (length ad.old) (length message.old) (length out.old) }
 {
     fill(ad, r[11]);
@@ -190,21 +197,28 @@ fn seal(l: Ledger, r: [u8; 64], ad: &mut [u8], message: &mut [u8], out: &mut [u8
     let end = 13 + least(r[1] as usize, 51);
     let kind = r[0];
     let s = seal_by(kind, l, &r[13..end], ad, message, out);
-    print_sealed(kind, s, out);
+    print_sealed(rt, kind, s, out);
     let next = s.ledger;
     next
 }
 
 // The same in buffers, of which it takes as much as the record says.
-fn seal_in(l: Ledger, r: [u8; 64], ad: &mut [u8], message: &mut [u8], out: &mut [u8]) -> Ledger {
+fn seal_in(
+    rt: &impl Print,
+    l: Ledger,
+    r: [u8; 64],
+    ad: &mut [u8],
+    message: &mut [u8],
+    out: &mut [u8],
+) -> Ledger {
     let h = least(length(r[2], r[3], r[4]), ad.len());
     let t = least(length(r[5], r[6], r[7]), message.len());
     let o = least(length(r[8], r[9], r[10]), out.len());
-    seal(l, r, &mut ad[..h], &mut message[..t], &mut out[..o])
+    seal(rt, l, r, &mut ad[..h], &mut message[..t], &mut out[..o])
 }
 
 // A sealing by name of strings that have the record's lengths.
-fn seal_named(l: Ledger, r: [u8; 64], message: &mut [u8], out: &mut [u8]) -> Ledger
+fn seal_named(rt: &impl Print, l: Ledger, r: [u8; 64], message: &mut [u8], out: &mut [u8]) -> Ledger
     ensures { value_of result ≡ named_by (value_of l) r (length message.old) (length out.old) }
 {
     fill(message, r[12]);
@@ -212,55 +226,68 @@ fn seal_named(l: Ledger, r: [u8; 64], message: &mut [u8], out: &mut [u8]) -> Led
     let end = 13 + least(r[5] as usize, 51);
     let name = number(r[1], r[2], r[3], r[4]);
     let s = l.sealed_by_name(name, &r[13..end], message, out);
-    print_sealed(6, s, out);
+    print_sealed(rt, 6, s, out);
     let next = s.ledger;
     next
 }
 
-fn seal_named_in(l: Ledger, r: [u8; 64], message: &mut [u8], out: &mut [u8]) -> Ledger {
+fn seal_named_in(
+    rt: &impl Print,
+    l: Ledger,
+    r: [u8; 64],
+    message: &mut [u8],
+    out: &mut [u8],
+) -> Ledger {
     let t = least(length(r[6], r[7], r[8]), message.len());
     let o = least(length(r[9], r[10], r[11]), out.len());
-    seal_named(l, r, &mut message[..t], &mut out[..o])
+    seal_named(rt, l, r, &mut message[..t], &mut out[..o])
 }
 
-fn step(l: Ledger, r: [u8; 64], ad: &mut [u8], message: &mut [u8], out: &mut [u8]) -> Ledger {
+fn step(
+    rt: &impl Print,
+    l: Ledger,
+    r: [u8; 64],
+    ad: &mut [u8],
+    message: &mut [u8],
+    out: &mut [u8],
+) -> Ledger {
     if r[0] == 0 {
-        return made(r);
+        return made(rt, r);
     }
     if r[0] == 1 {
-        return put(r);
+        return put(rt, r);
     }
     if r[0] == 4 {
-        return hold(l, r);
+        return hold(rt, l, r);
     }
     if r[0] == 5 {
-        return keep_in(l, r, ad);
+        return keep_in(rt, l, r, ad);
     }
     if r[0] == 6 {
-        return seal_named_in(l, r, message, out);
+        return seal_named_in(rt, l, r, message, out);
     }
     if r[0] == 7 {
-        return carry(l);
+        return carry(rt, l);
     }
-    seal_in(l, r, ad, message, out)
+    seal_in(rt, l, r, ad, message, out)
 }
 
-fn run(ad: &mut [u8], message: &mut [u8], out: &mut [u8]) {
+fn run(rt: &impl Print, input: &mut impl Read, ad: &mut [u8], message: &mut [u8], out: &mut [u8]) {
     let mut l = hand_made([0; 64]);
     let mut turns = 0u32;
     while turns < 1000000 {
         let mut r = [0u8; 64];
-        if io::read_full(STDIN_FILENO, &mut r) < 64 {
+        if input.read_exact(&mut r).is_err() {
             return;
         }
-        l = step(l, r, ad, message, out);
+        l = step(rt, l, r, ad, message, out);
         turns += 1;
     }
 }
 
-fn main() {
+fn main(rt: HostRuntime) {
     let mut ad = [0u8; 8192];
     let mut message = [0u8; 66000];
     let mut out = [0u8; 66000];
-    run(&mut ad, &mut message, &mut out);
+    run(&rt, &mut rt.stdin(), &mut ad, &mut message, &mut out);
 }

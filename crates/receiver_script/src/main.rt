@@ -26,11 +26,11 @@ ghost use Rattle.receiver.specs.Values.{value_of};
 ghost use Rattle.receiver_script.specs.Records.{made_by, put_by};
 
 use crate::lines::{print_call, print_receiver};
-use libc::STDIN_FILENO;
 use receiver::{Outcome, Receiver, Window};
 use script::{fill, key_of, least, length, long_number, number, print_number, print_output};
+use std::io::Read;
 
-fn made(r: [u8; 64]) -> Receiver
+fn made(rt: &impl Print, r: [u8; 64]) -> Receiver
     ensures { value_of result ≡ made_by r }
 {
     let end = 10 + least(r[9] as usize, 54);
@@ -38,10 +38,10 @@ fn made(r: [u8; 64]) -> Receiver
     let prefix = number(r[5], r[6], r[7], r[8]);
     let m = receiver::make(set, &r[10..end], prefix);
     let v = m.receiver;
-    print_call(0);
-    print_number(m.answer as u64);
-    print_receiver(v);
-    show::line_end();
+    print_call(rt, 0);
+    print_number(rt, m.answer as u64);
+    print_receiver(rt, v);
+    show::line_end(rt);
     v
 }
 
@@ -77,24 +77,24 @@ fn hand_made(r: [u8; 64]) -> Receiver
     }
 }
 
-fn put(r: [u8; 64]) -> Receiver
+fn put(rt: &impl Print, r: [u8; 64]) -> Receiver
     ensures { value_of result ≡ put_by r }
 {
     let v = hand_made(r);
-    print_call(1);
-    print_receiver(v);
-    show::line_end();
+    print_call(rt, 1);
+    print_receiver(rt, v);
+    show::line_end(rt);
     v
 }
 
 // A call's answer, the receiver after it, and the output.
-fn print_opened(kind: u8, s: Outcome, out: &[u8]) {
+fn print_opened(rt: &impl Print, kind: u8, s: Outcome, out: &[u8]) {
     let v = s.receiver;
-    print_call(kind);
-    print_number(s.answer as u64);
-    print_receiver(v);
-    print_output(out);
-    show::line_end();
+    print_call(rt, kind);
+    print_number(rt, s.answer as u64);
+    print_receiver(rt, v);
+    print_output(rt, out);
+    show::line_end(rt);
 }
 
 // Plain opening under the receiver's set and n bytes of its key.
@@ -125,27 +125,37 @@ fn call(v: Receiver, r: [u8; 64], ad: &[u8], text: &[u8], out: &mut [u8]) -> Out
 }
 
 // The ciphertext: noise, or what comes after the head.
-fn take_text(r: [u8; 64], text: &mut [u8]) {
+fn take_text(input: &mut impl Read, r: [u8; 64], text: &mut [u8]) {
     if r[0] == 3 {
         fill(text, r[12]);
     } else {
-        io::read_full(STDIN_FILENO, text);
+        let _ = input.read_exact(text);
     }
 }
 
 // An opening of strings that have the record's lengths.
-fn opening(v: Receiver, r: [u8; 64], ad: &mut [u8], text: &mut [u8], out: &mut [u8]) -> Receiver {
+fn opening(
+    rt: &impl Print,
+    input: &mut impl Read,
+    v: Receiver,
+    r: [u8; 64],
+    ad: &mut [u8],
+    text: &mut [u8],
+    out: &mut [u8],
+) -> Receiver {
     fill(ad, r[11]);
-    take_text(r, text);
+    take_text(input, r, text);
     fill(out, 165);
     let s = call(v, r, ad, text, out);
-    print_opened(r[0], s, out);
+    print_opened(rt, r[0], s, out);
     let next = s.receiver;
     next
 }
 
 // The same in buffers, of which it takes as much as the record says.
 fn opening_in(
+    rt: &impl Print,
+    input: &mut impl Read,
     v: Receiver,
     r: [u8; 64],
     ad: &mut [u8],
@@ -155,35 +165,43 @@ fn opening_in(
     let h = least(length(r[2], r[3], r[4]), ad.len());
     let t = least(length(r[5], r[6], r[7]), text.len());
     let o = least(length(r[8], r[9], r[10]), out.len());
-    opening(v, r, &mut ad[..h], &mut text[..t], &mut out[..o])
+    opening(rt, input, v, r, &mut ad[..h], &mut text[..t], &mut out[..o])
 }
 
-fn step(v: Receiver, r: [u8; 64], ad: &mut [u8], text: &mut [u8], out: &mut [u8]) -> Receiver {
+fn step(
+    rt: &impl Print,
+    input: &mut impl Read,
+    v: Receiver,
+    r: [u8; 64],
+    ad: &mut [u8],
+    text: &mut [u8],
+    out: &mut [u8],
+) -> Receiver {
     if r[0] == 0 {
-        return made(r);
+        return made(rt, r);
     }
     if r[0] == 1 {
-        return put(r);
+        return put(rt, r);
     }
-    opening_in(v, r, ad, text, out)
+    opening_in(rt, input, v, r, ad, text, out)
 }
 
-fn run(ad: &mut [u8], text: &mut [u8], out: &mut [u8]) {
+fn run(rt: &impl Print, input: &mut impl Read, ad: &mut [u8], text: &mut [u8], out: &mut [u8]) {
     let mut v = hand_made([0; 64]);
     let mut turns = 0u32;
     while turns < 1000000 {
         let mut r = [0u8; 64];
-        if io::read_full(STDIN_FILENO, &mut r) < 64 {
+        if input.read_exact(&mut r).is_err() {
             return;
         }
-        v = step(v, r, ad, text, out);
+        v = step(rt, input, v, r, ad, text, out);
         turns += 1;
     }
 }
 
-fn main() {
+fn main(rt: HostRuntime) {
     let mut ad = [0u8; 8192];
     let mut text = [0u8; 66000];
     let mut out = [0u8; 66000];
-    run(&mut ad, &mut text, &mut out);
+    run(&rt, &mut rt.stdin(), &mut ad, &mut text, &mut out);
 }

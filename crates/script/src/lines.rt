@@ -1,5 +1,4 @@
-// What a line shows.
-use libc::STDOUT_FILENO;
+// What a line shows. A write that fails is passed over.
 
 // A string as a big-endian number modulo the prime 2^56 - 5, by which a long output is shown.
 fn residue(s: &[u8]) -> u64 {
@@ -12,29 +11,30 @@ fn residue(s: &[u8]) -> u64 {
     r
 }
 
-pub fn print_number(n: u64) {
-    show::space();
-    io::print_decimal(STDOUT_FILENO, n);
+pub fn print_number(rt: &impl Print, n: u64) {
+    show::space(rt);
+    show::number(rt, n);
 }
 
-pub fn print_bytes(s: &[u8]) {
-    show::space();
-    show::bytes(s);
+pub fn print_bytes(rt: &impl Print, s: &[u8]) {
+    show::space(rt);
+    show::bytes(rt, s);
 }
 
-pub fn print_nothing() {
-    io::write_all(STDOUT_FILENO, b" -");
+pub fn print_nothing(rt: &impl Print) {
+    show::text(rt, b" -");
 }
 
 // A long one by its length and its residue.
-pub fn print_output(out: &[u8]) {
+pub fn print_output(rt: &impl Print, out: &[u8]) {
     if out.len() == 0 {
-        print_nothing();
+        print_nothing(rt);
     } else if out.len() > 64 {
-        print_number(out.len() as u64);
-        show::space();
-        io::print_hex(STDOUT_FILENO, residue(out), 14);
+        print_number(rt, out.len() as u64);
+        show::space(rt);
+        let r = residue(out);
+        let _ = print!(rt; "{r:014x}");
     } else {
-        print_bytes(out);
+        print_bytes(rt, out);
     }
 }
