@@ -3,7 +3,7 @@
 use mathlib.Core.Path.{◌≡◌, refl, sym, ap, subst, ◌∙◌}
 use mathlib.Core.Bool.{Bool, true, false, cond}
 use mathlib.Core.List.{List, [], ◌∷◌, ◌++◌}
-use mathlib.Core.Logic.{◌⊎◌, inl, inr, ⊎_elim}
+use mathlib.Core.Logic.{inl, inr, ⊎_elim}
 use Prim.Native.Nat.{ℕ, zero, suc, ◌+◌, ◌<◌, ◌≤◌}
 use native.Mathlib.Omega.{arith}
 use borrow.Author.Tests.{eqb-true, eqb-false}
@@ -11,8 +11,8 @@ use lib.Dec.{eqb}
 use native.Mathlib.Nat.{le_antisymm}
 use Rattle.octets.proofs.Tests.{le_or_lt}
 use Rattle.text.specs.Numerals.{decimal}
-use Rattle.hub_rules.specs.Whole.{last_line, first_line, heading, summary_head, lines_of, at_most, answers_from, count_for, row_for, rows_from, after_the_first, output_of, hub}
-use Rattle.hub_rules.specs.Summary.{Count, rows_text, RisingFrom, Holds, Rows, Summed, Summary}
+use Rattle.hub_rules.specs.Whole.{last_line, heading, summary_head, at_most, answers_from, count_for, row_for, rows_from, after_the_first, output_of, hub}
+use Rattle.hub_rules.specs.Summary.{Count, rows_text, RisingFrom, Holds, Summary}
 
 module _ (read : List (List ℕ)) where
   row : ℕ → Count

@@ -14,7 +14,7 @@ use Rattle.hub_grammar.specs.Lines.{length_before}
 use Rattle.text.specs.Writing.{Puts}
 use Rattle.hub_run.specs.declared.state.Hub.{Hub}
 use Rattle.hub_run.specs.declared.chunk.Fed.{Fed}
-use Rattle.hub_rules.specs.Stream.{line_room, line_kept, State, is_done, ended, end_says, longer, next, after, output, overlaid, buffer, used_from, chunk_used}
+use Rattle.hub_rules.specs.Stream.{line_room, line_kept, State, is_done, ended, end_says, longer, after, output, overlaid, buffer, used_from, chunk_used}
 use Rattle.hub_run.specs.Values.{state_of, Sound, Goes, KeepsPiece, FeedsLine, FeedsChunk}
 use Rattle.hub_rules.proofs.StreamLaws.{after_append, output_append, over-stays, longer-over, piece, with_end, with_line}
 use Rattle.hub_rules.proofs.BufferLaws.{buffer_append, over-keeps, end_keeps, piece-kept}

@@ -3,13 +3,13 @@
 use mathlib.Core.Path.{◌≡◌, refl, sym, subst, ◌∙◌}
 use mathlib.Core.Bool.{Bool, true, false, cond, not, ◌||◌}
 use mathlib.Core.List.{List, []}
-use Prim.Native.Nat.{ℕ, zero, suc, ◌+◌, ◌-◌, ◌<◌, ◌≤◌}
+use Prim.Native.Nat.{ℕ, zero, suc, ◌+◌, ◌<◌, ◌≤◌}
 use native.Mathlib.Omega.{arith}
 use borrow.Author.Tests.{eq-eqb, ne_eqb}
 use mathlib.Core.Logic.{⊎_elim}
 use lib.Dec.{T, eqb}
 use lib.Seq.{length-take-le}
-use lib.ListN.{length, take, get_or, replicate}
+use lib.ListN.{take, get_or, replicate}
 use Rattle.octets.specs.Strings.{eqs}
 use Rattle.hub_grammar.specs.Lines.{parse}
 use Rattle.hub_rules.specs.Answers.{accepted_set, line_for}

@@ -10,7 +10,7 @@ use lib.ListN.{length, take, drop}
 use Rattle.octets.specs.Strings.{over}
 use Rattle.octets.proofs.Parts.{size_of}
 use Rattle.answers.specs.Rows.{Row, answer, first_of, numbers, is_in, own_numbers}
-use Rattle.answers.proofs.RowLaws.{refuses, passed, neither, two-parts}
+use Rattle.answers.proofs.RowLaws.{passed, neither, two-parts}
 use Rattle.fips197.specs.Schedule.{is_key}
 use Rattle.fips197.specs.Cipher.{cipher}
 use Rattle.cba_mode.specs.Sets.{tag_bits, capacity, tag_bytes}

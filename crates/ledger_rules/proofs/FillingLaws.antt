@@ -2,7 +2,7 @@
 -- Assumes nothing.
 use mathlib.Core.Path.{◌≡◌, refl, sym, ap, ap₂, subst, ◌∙◌}
 use mathlib.Core.Bool.{Bool, true, false}
-use mathlib.Core.List.{List, [], ◌∷◌, ◌++◌}
+use mathlib.Core.List.{List, []}
 use Prim.Native.Nat.{ℕ, zero, suc, ◌+◌, ◌*◌, ◌^◌, ◌<◌, ◌≤◌}
 use native.Mathlib.Nat.{mod-eq_of_lt, suc-mul}
 use native.Mathlib.Omega.{arith}
@@ -15,7 +15,7 @@ use Rattle.cba_mode.specs.Charge.{old_charge, charge}
 use Rattle.cba_rules.specs.Checks.{set_tag}
 use Rattle.ledger_rules.specs.Ledger.{Ledger, fresh, console_of, stale, charge_by, spent, source_row, seal_charge, ledger_answer, next_ledger}
 use Rattle.ledger_rules.specs.Ledger.Source.{given}
-use Rattle.ledger_rules.specs.Runs.{Call, after, run, nonce_of, repeated, filled, Filling}
+use Rattle.ledger_rules.specs.Runs.{after, run, nonce_of, repeated, filled, Filling}
 use Rattle.ledger_rules.proofs.LedgerLaws.{Ready, ledger_accepts, ledger_spent, next-accepted}
 use Rattle.ledger_rules.proofs.Runs.{run_append}
 

@@ -4,7 +4,7 @@ use mathlib.Core.Path.{◌≡◌, refl, sym, ap, subst, ◌∙◌}
 use mathlib.Core.Bool.{Bool, true, false, cond, ◌&&◌, false≢true}
 use mathlib.Core.List.{List, [], ◌∷◌, ◌++◌, append-nil}
 use mathlib.Core.Option.{Option, none, some}
-use Prim.Native.Nat.{ℕ, zero, suc, ◌+◌, ◌-◌, ◌≤◌}
+use Prim.Native.Nat.{ℕ, zero, suc, ◌+◌, ◌≤◌}
 use native.Mathlib.Omega.{arith}
 use lib.Dec.{eqb}
 use lib.ListN.{length, get_or, replicate}
@@ -14,7 +14,7 @@ use Rattle.cba_mode.specs.Sets.{is_set, key_bytes}
 use Rattle.cba_rules.specs.Refusals.{SealCall}
 use Rattle.cba_rules.proofs.SetLaws.{key-most, held-key}
 use Rattle.cba_rules.proofs.RefusalLaws.{key-accepts}
-use Rattle.ledger_rules.specs.Ledger.{Heading, Ledger, fresh, make_rows, make_answer, key_of, heading_at, is_heading_name, is_kept, ledger_answer, ledger_output, carry_answer}
+use Rattle.ledger_rules.specs.Ledger.{Heading, Ledger, fresh, make_rows, make_answer, key_of, heading_at, is_heading_name, is_kept, ledger_answer, ledger_output}
 use Rattle.ledger_rules.specs.Ledger.Source.{given, named}
 use Rattle.ledger_rules.specs.Runs.{Call, answer_on, after, run, accepted, charges, NoCarrying, before_carrying, since_carrying, last_kept, is_some, ByName, LedgerTheorems}
 use Rattle.ledger_rules.specs.Runs.Call.{seals, keeps, carries}

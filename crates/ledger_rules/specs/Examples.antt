@@ -3,7 +3,6 @@
 -- Assumes nothing.
 use Rattle.std.specs.Prelude.{◌≡◌, Bool, true, false, ◌&&◌, List, [], ◌∷◌, ◌++◌, ℕ, ◌-◌, eqb}
 use lib.ListN.{get_or, take, replicate}
-use Rattle.answers.specs.Rows.{answer}
 use Rattle.cba_rules.specs.Examples.{key_calls, keys_so}
 use Rattle.ledger_rules.specs.Ledger.{Ledger, no_headings, make_rows, fresh, Source, ledger_answer, keep_answer, carry_answer}
 use Rattle.ledger_rules.specs.Ledger.Source.{given, named}

@@ -16,7 +16,7 @@ use Rattle.window_rules.specs.Theorems.{is_too_late, Holds}
 use Rattle.window_rules.proofs.WindowLaws.{one_more, all_of, none_yet}
 use Rattle.window_rules.proofs.HighestLaws.{holds-all}
 use Rattle.receiver_rules.specs.Receiver.{Receiver, make_answer, made_receiver, Fresh, key_of, prefix_of, counter_of, with_counter}
-use Rattle.receiver_rules.specs.Runs.{Opening, answer_on, after, output_on, gives, Promised, run, accepted, NoneTwice, FreshFor, SameMaking, AsPlain}
+use Rattle.receiver_rules.specs.Runs.{Opening, answer_on, after, output_on, gives, Promised, run, accepted, NoneTwice, SameMaking, AsPlain}
 use Rattle.receiver_rules.proofs.ReceiverLaws.{made-fresh, not-repeated, plain-call, new-call, next-accepted, next-refused}
 
 after-accepted : (v : Receiver) (o : Opening) → answer_on v o ≡ 0 → after v o ≡ with_counter v (counter_of o.nonce)

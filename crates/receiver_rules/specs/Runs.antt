@@ -9,7 +9,7 @@ use Rattle.cba_rules.specs.Checks.{set_tag}
 use Rattle.cba_rules.specs.Refusals.{opening, OpenCall}
 use Rattle.window_rules.specs.Window.{is_repeat}
 use Rattle.window_rules.specs.Theorems.{is_too_late, Holds}
-use Rattle.receiver_rules.specs.Receiver.{Receiver, no_receiver, make_rows, make_answer, made_receiver, Fresh, key_of, prefix_of, counter_of, receiver_rows, receiver_answer, with_counter, next_receiver, receiver_output, ReceiverCall}
+use Rattle.receiver_rules.specs.Receiver.{Receiver, make_rows, make_answer, made_receiver, Fresh, key_of, prefix_of, counter_of, receiver_rows, receiver_answer, with_counter, next_receiver, receiver_output, ReceiverCall}
 
 -- what one opening is given
 pub record Opening : Type 0 where

@@ -1,7 +1,6 @@
 -- `hub_answer::answer::set_tag` meets its contract.
 -- Assumes nothing.
 use mathlib.Core.Path.{sym, subst, ◌∙◌}
-use borrow.Author.Rules.{rules}
 use lib.Dec.{T}
 use Rattle.plain.proofs.SetLaws.{is-unknown, its_tag}
 use Rattle.hub_answer.proofs.answer.set_tag.Goals as goal

@@ -1,9 +1,7 @@
 -- `hub_run::chunk::feed` meets its contract.
 -- Assumes nothing.
-use Prim.Native.Nat.{◌-◌}
 use borrow.Author.Rules.{rules}
-use lib.ListN.{length}
-use Rattle.hub_run.proofs.ChunkLaws.{Feeding, feeding_none, feeding_turn, feeding_end, feeding_less, feeding_small, feeding_full}
+use Rattle.hub_run.proofs.ChunkLaws.{feeding_none, feeding_turn, feeding_end, feeding_less, feeding_small, feeding_full}
 use Rattle.hub_run.proofs.chunk.feed.Goals as goal
 
 pub loop-used-init : goal.loop-used-init

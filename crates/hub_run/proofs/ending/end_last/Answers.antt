@@ -2,7 +2,6 @@
 -- Assumes nothing.
 use mathlib.Core.Path.{sym}
 use native.Mathlib.Omega.{arith}
-use borrow.Author.Rules.{rules}
 use lib.Seq.{length-take-le}
 use Rattle.hub_run.proofs.SummaryLaws.{goes-within}
 use Rattle.hub_rules.specs.Stream.{line_room}

@@ -2,7 +2,6 @@
 -- Assumes nothing.
 use mathlib.Core.Path.{sym, ◌∙◌}
 use borrow.Author.Rules.{rules}
-use borrow.Author.Tests.{not-true, not-false}
 use Rattle.hub_run.proofs.SummaryLaws.{ending-settled, ending-pending, pending_open}
 use Rattle.hub_run.proofs.ending.finish.Goals as goal
 

@@ -1,7 +1,6 @@
 -- `hub_run::ending::is_pending` meets its contract.
 -- Assumes nothing.
 use mathlib.Core.Path.{◌∙◌, sym}
-use borrow.Author.Rules.{rules}
 use Rattle.hub_run.proofs.StateLaws.{pending-over, pending-first, pending-line}
 use Rattle.hub_run.proofs.ending.is_pending.Goals as goal
 

@@ -2,7 +2,6 @@
 -- Assumes nothing.
 use mathlib.Core.Path.{refl, sym}
 use native.Mathlib.Omega.{arith}
-use borrow.Author.Rules.{rules}
 use lib.Seq.{length-take-le}
 use Rattle.hub_run.proofs.StateLaws.{goes_first}
 use Rattle.hub_run.proofs.line.end_first.Goals as goal

@@ -1,9 +1,8 @@
 -- `hub_run::summary::put_rows` meets its contract.
 -- Assumes nothing.
-use Prim.Native.Nat.{◌-◌}
 use native.Mathlib.Omega.{arith}
 use borrow.Author.Rules.{rules}
-use Rattle.hub_run.proofs.SummaryLaws.{Rows, rows_none, rows-turn, rows_all}
+use Rattle.hub_run.proofs.SummaryLaws.{rows_none, rows-turn, rows_all}
 use Rattle.hub_run.proofs.summary.put_rows.Goals as goal
 
 pub loop-i-init : goal.loop-i-init

@@ -1,9 +1,6 @@
 -- `hub_text::cut::length_before` meets its contract: no x stands before place i.
 -- Assumes nothing.
-use Prim.Native.Nat.{◌-◌}
-use lib.ListN.{length}
-use borrow.Author.Rules.{rules}
-use Rattle.hub_text.proofs.CutLaws.{Sought, sought_none, sought_turn, sought_here, sought_all}
+use Rattle.hub_text.proofs.CutLaws.{sought_none, sought_turn, sought_here, sought_all}
 use Rattle.hub_text.proofs.cut.length_before.Goals as goal
 
 pub loop-i-init : goal.loop-i-init

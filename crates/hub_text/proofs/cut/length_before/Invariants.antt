@@ -2,8 +2,7 @@
 -- Assumes nothing.
 use Prim.Native.Nat.{◌-◌}
 use lib.ListN.{length}
-use borrow.Author.Rules.{rules}
-use Rattle.hub_text.proofs.CutLaws.{Sought, sought_none, sought_turn, sought_here, sought_all}
+use Rattle.hub_text.proofs.CutLaws.{Sought}
 use Rattle.hub_text.proofs.cut.length_before.Given as goal
 
 abbrev pub invariant-loop-i : goal.invariant-loop-i

@@ -2,7 +2,6 @@
 -- Assumes nothing.
 use native.Mathlib.Omega.{arith}
 use Rattle.hub_text.proofs.CutLaws.{found_none, found-more, found-last, found-over, other_cut, six-cut}
-use borrow.Author.Rules.{rules}
 use Rattle.hub_text.proofs.cut.spaces.Goals as goal
 
 pub returns-then-a-n : goal.returns-then-a-n

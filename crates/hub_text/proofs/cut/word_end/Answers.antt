@@ -6,7 +6,6 @@ use native.Mathlib.Omega.{arith}
 use lib.ListN.{length, length-drop}
 use Rattle.hub_grammar.specs.Lines.{length_before}
 use Rattle.octets.proofs.Parts.{to_end}
-use borrow.Author.Rules.{rules}
 use Rattle.hub_text.proofs.cut.word_end.Goals as goal
 
 pub returns : goal.returns

@@ -3,7 +3,6 @@
 use mathlib.Core.Path.{refl}
 use native.Mathlib.Omega.{arith}
 use borrow.Author.Rules.{rules}
-use borrow.Author.Tests.{not-true, not-false}
 use Rattle.text.specs.Numerals.{is_set_number, is_value}
 use Rattle.hub_text.proofs.RequestLaws.{is_act, says, not-act, not_set, not_key, not-nonce, not-ad, if_text}
 use Rattle.hub_text.proofs.request.is_request.Goals as goal

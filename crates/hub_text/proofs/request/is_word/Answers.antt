@@ -1,9 +1,6 @@
 -- `hub_text::request::is_word` meets its contract: after i turns the first i bytes are the same.
 -- Assumes nothing.
-use Prim.Native.Nat.{◌-◌}
-use lib.ListN.{length}
-use borrow.Author.Rules.{rules}
-use Rattle.hub_text.proofs.RequestLaws.{Matched, other_length, matched_none, matched_turn, matched_not, matched_all}
+use Rattle.hub_text.proofs.RequestLaws.{other_length, matched_none, matched_turn, matched_not, matched_all}
 use Rattle.hub_text.proofs.request.is_word.Goals as goal
 
 pub returns-then-w-word : goal.returns-then-w-word

@@ -2,8 +2,7 @@
 -- Assumes nothing.
 use Prim.Native.Nat.{◌-◌}
 use lib.ListN.{length}
-use borrow.Author.Rules.{rules}
-use Rattle.hub_text.proofs.RequestLaws.{Matched, other_length, matched_none, matched_turn, matched_not, matched_all}
+use Rattle.hub_text.proofs.RequestLaws.{Matched}
 use Rattle.hub_text.proofs.request.is_word.Given as goal
 
 abbrev pub invariant-loop-i : goal.invariant-loop-i

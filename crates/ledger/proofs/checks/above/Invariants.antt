@@ -1,10 +1,8 @@
 -- `ledger::checks::above` meets its contract: after i turns the first i bytes are compared.
 -- Assumes nothing.
 use Prim.Native.Nat.{◌-◌}
-use mathlib.Core.Logic.{⊎_elim}
 use lib.ListN.{length}
-use borrow.Author.Rules.{rules}
-use Rattle.ledger.proofs.CheckLaws.{Ordered, ordered-none, ordered_same, ordered_other, ordered-all}
+use Rattle.ledger.proofs.CheckLaws.{Ordered}
 use Rattle.ledger.proofs.checks.above.Given as goal
 
 abbrev pub invariant-loop-i : goal.invariant-loop-i

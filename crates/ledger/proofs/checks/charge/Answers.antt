@@ -2,7 +2,6 @@
 -- Assumes nothing.
 use native.Mathlib.Omega.{arith}
 use Rattle.ledger.proofs.CheckLaws.{some-blocks, no_blocks}
-use borrow.Author.Rules.{rules}
 use Rattle.ledger.proofs.checks.charge.Goals as goal
 
 pub overflow_add-n : goal.overflow_add-n

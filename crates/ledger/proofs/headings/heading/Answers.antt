@@ -1,7 +1,6 @@
 -- `ledger::headings::heading` meets its contract.
 -- Assumes nothing.
 use Rattle.ledger.proofs.HeadingLaws.{read}
-use borrow.Author.Rules.{rules}
 use Rattle.ledger.proofs.headings.heading.Goals as goal
 
 pub returns : goal.returns

@@ -4,7 +4,6 @@ use mathlib.Core.Path.{ap}
 use Rattle.ledger_rules.specs.Ledger.{Heading}
 use Rattle.ledger.specs.Values.{value_of}
 use Rattle.ledger.proofs.HeadingLaws.{kept_above, kept-below}
-use borrow.Author.Rules.{rules}
 use Rattle.ledger.proofs.headings.is_kept.Goals as goal
 
 pub returns-then-name-ge-NAMES : goal.returns-then-name-ge-NAMES

@@ -7,7 +7,6 @@ use Rattle.answers.specs.Rows.{answer}
 use Rattle.ledger_rules.specs.Ledger.{spent, has_no_blocks, is_heading_name}
 use Rattle.ledger.specs.Values.{value_of}
 use Rattle.ledger.proofs.HeadingLaws.{keep_groups}
-use borrow.Author.Rules.{rules}
 use Rattle.ledger.proofs.headings.keep_checks.Goals as goal
 
 pub capacity_check-requires : goal.capacity_check-requires

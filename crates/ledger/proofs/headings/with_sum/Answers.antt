@@ -3,7 +3,6 @@
 use mathlib.Core.Path.{refl}
 use mathlib.Core.Bool.{true}
 use Rattle.ledger.proofs.HeadingLaws.{stored}
-use borrow.Author.Rules.{rules}
 use Rattle.ledger.proofs.headings.with_sum.Goals as goal
 
 pub returns : goal.returns

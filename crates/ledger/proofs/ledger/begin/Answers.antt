@@ -2,7 +2,6 @@
 -- Assumes nothing.
 use mathlib.Core.Path.{refl}
 use Rattle.ledger.proofs.ValueLaws.{fresh-key}
-use borrow.Author.Rules.{rules}
 use Rattle.ledger.proofs.ledger.begin.Goals as goal
 
 pub returns : goal.returns

@@ -7,7 +7,6 @@ use Rattle.answers.proofs.RowLaws.{first_stops, first_goes}
 use Rattle.ledger_rules.specs.Ledger.{stale, spent, own_rows}
 use Rattle.ledger.specs.Values.{value_of}
 use Rattle.ledger.proofs.CallLaws.{groups-nonce}
-use borrow.Author.Rules.{rules}
 use Rattle.ledger.proofs.ledger.checked.Goals as goal
 
 pub returns-then-refusal-ne0 : goal.returns-then-refusal-ne0

@@ -3,7 +3,6 @@
 use mathlib.Core.Path.{ap, ap₂, ◌∙◌}
 use Prim.Native.Nat.{ℕ}
 use Rattle.answers.specs.Rows.{first_of}
-use borrow.Author.Rules.{rules}
 use Rattle.ledger.proofs.ledger.first_checks.Goals as goal
 
 pub returns : goal.returns

@@ -8,7 +8,6 @@ use Rattle.answers.specs.Rows.{answer}
 use Rattle.cba_rules.specs.Checks.{bad_start}
 use Rattle.plain.proofs.AnswerLaws.{nonce-refused, nonce-length, start_follows}
 use Rattle.ledger_rules.specs.Ledger.{console_of}
-use borrow.Author.Rules.{rules}
 use Rattle.ledger.proofs.ledger.nonce_checks.Goals as goal
 
 pub returns-then-refusal-ne0 : goal.returns-then-refusal-ne0

@@ -4,7 +4,6 @@ use mathlib.Core.Path.{refl, sym, ◌∙◌}
 use mathlib.Core.List.{[]}
 use Rattle.answers.specs.Rows.{answer}
 use Rattle.answers.proofs.RowLaws.{refuses}
-use borrow.Author.Rules.{rules}
 use Rattle.ledger.proofs.ledger.own_check.Goals as goal
 
 pub returns-then-is_stale : goal.returns-then-is_stale

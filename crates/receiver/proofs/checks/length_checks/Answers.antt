@@ -7,7 +7,6 @@ use Rattle.answers.proofs.RowLaws.{joined}
 use Rattle.cba_mode.specs.Sets.{tag_bytes}
 use Rattle.cba_rules.specs.Checks.{long_data, ciphertext_rows}
 use Rattle.receiver_rules.specs.Receiver.{nonce_rows}
-use borrow.Author.Rules.{rules}
 use Rattle.receiver.proofs.checks.length_checks.Goals as goal
 
 pub returns : goal.returns

@@ -3,7 +3,6 @@
 use mathlib.Core.Path.{sym, ◌∙◌}
 use Rattle.plain.proofs.SetLaws.{unknown-answers, key-known}
 use Rattle.receiver_rules.specs.Receiver.{make_rows}
-use borrow.Author.Rules.{rules}
 use Rattle.receiver.proofs.checks.make_checks.Goals as goal
 
 pub returns-in_default : goal.returns-in_default

@@ -1,13 +1,12 @@
 -- `receiver::nonce::big_endian` meets its contract: after i turns the number is that of the first i bytes.
 -- Assumes nothing.
 use mathlib.Core.Path.{refl, ap, ◌∙◌}
-use Prim.Native.Nat.{◌-◌, ◌<◌}
+use Prim.Native.Nat.{◌<◌}
 use native.Mathlib.Omega.{arith}
-use lib.ListN.{length, get_or}
+use lib.ListN.{get_or}
 use lib.Seq.{take_all}
-use borrow.Author.Rules.{rules}
 use Rattle.octets.specs.Numbers.{number}
-use Rattle.cba_mode.proofs.OffsetLaws.{Read, read_none, read_fits, read-turn}
+use Rattle.cba_mode.proofs.OffsetLaws.{read_none, read_fits, read-turn}
 use Rattle.receiver.proofs.nonce.big_endian.Goals as goal
 
 pub loop-i-init : goal.loop-i-init

@@ -7,7 +7,6 @@ use lib.ListN.{length, drop, length-drop}
 use lib.Seq.{take_all}
 use Rattle.octets.specs.Numbers.{number}
 use Rattle.receiver_rules.specs.Receiver.{counter_of}
-use borrow.Author.Rules.{rules}
 use Rattle.receiver.proofs.nonce.counter_of.Goals as goal
 
 pub returns : goal.returns

@@ -3,7 +3,6 @@
 use mathlib.Core.Path.{refl}
 use lib.ListN.{length}
 use Rattle.octets.proofs.Strings.{drop-replicate}
-use borrow.Author.Rules.{rules}
 use Rattle.receiver.proofs.receiver.begin.Goals as goal
 
 pub returns : goal.returns

@@ -4,7 +4,6 @@ use mathlib.Core.Path.{sym, ◌∙◌}
 use Rattle.receiver_rules.specs.Receiver.{make_rows, make_answer}
 use Rattle.receiver_rules.proofs.ReceiverLaws.{made_so, made_none}
 use Rattle.plain.proofs.SetLaws.{key-limit}
-use borrow.Author.Rules.{rules}
 use Rattle.receiver.proofs.receiver.make.Goals as goal
 
 pub returns-then-refusal-ne0 : goal.returns-then-refusal-ne0

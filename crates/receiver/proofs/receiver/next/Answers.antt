@@ -1,7 +1,6 @@
 -- `receiver::receiver::next` meets its contract.
 -- Assumes nothing.
 use mathlib.Core.Path.{refl}
-use borrow.Author.Rules.{rules}
 use Rattle.receiver.proofs.receiver.next.Goals as goal
 
 pub returns : goal.returns

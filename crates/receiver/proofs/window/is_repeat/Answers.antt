@@ -5,7 +5,6 @@ use Rattle.answers.proofs.RowLaws.{not-true, not-false}
 use Rattle.window_rules.specs.Window.{bit}
 use Rattle.window_rules.proofs.WindowLaws.{none_yet, none-above-highest, marked-near, far-below}
 use Rattle.receiver.specs.Values.{window_of}
-use borrow.Author.Rules.{rules}
 use Rattle.receiver.proofs.window.is_repeat.Goals as goal
 
 pub returns-then-not-w : goal.returns-then-not-w

@@ -1,7 +1,6 @@
 -- `receiver::window::moved` meets its contract.
 -- Assumes nothing.
 use Rattle.receiver.proofs.MarkLaws.{all_lost}
-use borrow.Author.Rules.{rules}
 use Rattle.receiver.proofs.window.moved.Goals as goal
 
 pub returns-then-by-ge-REACH : goal.returns-then-by-ge-REACH

@@ -8,7 +8,6 @@ use Rattle.window_rules.specs.Window.{recorded}
 use Rattle.window_rules.proofs.WindowLaws.{not-far}
 use Rattle.receiver.specs.Values.{window_of}
 use Rattle.receiver.proofs.MarkLaws.{with_mark, one-mark}
-use borrow.Author.Rules.{rules}
 use Rattle.receiver.proofs.window.recorded.Goals as goal
 
 pub returns-then-not-w : goal.returns-then-not-w

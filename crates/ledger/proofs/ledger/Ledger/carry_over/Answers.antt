@@ -3,7 +3,6 @@
 use mathlib.Core.Path.{sym, ◌∙◌}
 use Rattle.ledger.specs.Values.{value_of}
 use Rattle.ledger.proofs.CallLaws.{carry_unknown, carry_known}
-use borrow.Author.Rules.{rules}
 use Rattle.ledger.proofs.ledger.Ledger.carry_over.Goals as goal
 
 pub returns-in_default : goal.returns-in_default

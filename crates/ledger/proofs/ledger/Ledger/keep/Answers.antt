@@ -3,7 +3,6 @@
 use mathlib.Core.Path.{sym, ◌∙◌}
 use Rattle.ledger.specs.Values.{value_of}
 use Rattle.ledger.proofs.HeadingLaws.{keep_refused, keep_unknown}
-use borrow.Author.Rules.{rules}
 use Rattle.ledger.proofs.ledger.Ledger.keep.Goals as goal
 
 pub returns-in_default : goal.returns-in_default

@@ -9,7 +9,6 @@ use Rattle.ledger_rules.specs.Ledger.Source.{named}
 use Rattle.ledger_rules.proofs.LedgerLaws.{ledger_refused}
 use Rattle.ledger.specs.Values.{value_of}
 use Rattle.ledger.proofs.CallLaws.{unknown-refused, from-source}
-use borrow.Author.Rules.{rules}
 use Rattle.ledger.proofs.ledger.Ledger.sealed_by_name.Goals as goal
 
 pub returns-in_default : goal.returns-in_default

@@ -6,7 +6,6 @@ use Rattle.cba_mode.specs.Sets.{tag_bytes}
 use Rattle.window_rules.specs.Window.{is_repeat}
 use Rattle.receiver.specs.Values.{window_of, value_of}
 use Rattle.receiver.proofs.CallLaws.{unknown-refused, lengths-nonce, lengths-refused, repeat_refused}
-use borrow.Author.Rules.{rules}
 use Rattle.receiver.proofs.receiver.Receiver.opened.Goals as goal
 
 pub returns-in_default : goal.returns-in_default
