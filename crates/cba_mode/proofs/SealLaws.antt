@@ -19,6 +19,7 @@ use Rattle.cba_mode.specs.Data.{block_sum, with_rest, data_sum, data_hash, tag_o
 use Rattle.cba_mode.specs.Seal.{checksum, cipher_blocks, R, Δ₀, masked, short_tag, T, joined_block, joined_last, joined_end, joined_tail, last_block, last_offset, separate_tag, separate_tail, seal_as, seal_with}
 use Rattle.cba_mode.specs.Forms.{Form, full_blocks, last_length}
 use Rattle.cba_mode.specs.Forms.Form.{short, joined, separate}
+use Rattle.cba_mode.proofs.Reference
 use Rattle.cba_mode.proofs.FormLaws.{by_form, seal_short, seal_joined, seal_long, seal_single}
 use Rattle.cba_mode.proofs.OffsetLaws.{xors-octets, append_octets, take-octets, drop-octets, F-octets, start-octets, offset-octets, pad-octets}
 

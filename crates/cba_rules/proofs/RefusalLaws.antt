@@ -15,6 +15,7 @@ use Rattle.cba_mode.specs.Open.{is_false, message_of}
 use Rattle.cba_rules.specs.Checks.{set_tag, bad_set, bad_key, bad_nonce, long_data, forged, key_rows, message_rows, ciphertext_rows, seal_rows, open_checks, open_rows}
 use Rattle.cba_rules.specs.Refusals.{sealing, opening, seal_answer, open_answer, seal_leaves, seal_output, open_leaves, open_output, SealCall, OpenCall}
 use Rattle.cba_rules.specs.Demands.{SealRefusals, OpenRefusals}
+use Rattle.cba_rules.proofs.Examples
 
 -- ---- the checks as facts about lengths
 

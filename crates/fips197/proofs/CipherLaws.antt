@@ -11,6 +11,7 @@ use Rattle.octets.specs.Strings.{Bytes, Octets}
 use Rattle.fips197.specs.Schedule.{key_expansion}
 use Rattle.fips197.specs.Steps.{sub_bytes, shift_rows, mix_columns, add_round_key, inv_sub_bytes, inv_shift_rows, inv_mix_columns}
 use Rattle.fips197.specs.Cipher.{full_round, rounds, cipher_over, inv_rounds, inv_cipher_over, key_rounds, cipher}
+use Rattle.fips197.proofs.Examples
 use Rattle.fips197.proofs.StepLaws.{sub_bytes-octets, inv_sub_bytes-octets, inv_sub_bytes-sub_bytes, sub_bytes-inv_sub_bytes, shift_rows-octets, inv_shift_rows-octets, inv_shift_rows-shift_rows, shift_rows-inv_shift_rows, mix_columns-octets, inv_mix_columns-octets, inv_mix_columns-mix_columns, mix_columns-inv_mix_columns, add_round_key-octets, add_round_key-twice}
 
 -- one more round

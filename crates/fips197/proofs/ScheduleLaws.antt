@@ -16,6 +16,7 @@ use Rattle.octets.proofs.Xor.{length-xors, bytes-xors}
 use Rattle.octets.proofs.Blocks.{length-block}
 use Rattle.field.proofs.Rules.{xtime_byte, s_box_byte}
 use Rattle.fips197.specs.Schedule.{is_key, sub_word, rot_word, power, rcon, at_start, at_middle, temp, next_word, expanded, key_expansion}
+use Rattle.fips197.proofs.Examples
 
 -- what a key's length is good for: it is a number of words, which is even and 4 to 8
 pub record KeyWords (key : List ℕ) : Type 0 where
