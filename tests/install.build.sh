@@ -12,7 +12,7 @@ touch "$tmp/crates.txt" "$tmp/crates/one/src/lib.rt"
 
 cat >"$tmp/bin/rt" <<'EOF'
 #!/bin/sh
-[ "$*" = lib ] && [ "$(basename "$PWD")" = cba_c ] && [ ! -e ../../fails ] || exit 1
+[ "$*" = "lib --cpu=x86-64" ] && [ "$(basename "$PWD")" = cba_c ] && [ ! -e ../../fails ] || exit 1
 mkdir -p out
 date +%N >out/libcba_c.a
 EOF
