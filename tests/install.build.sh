@@ -5,15 +5,16 @@ set -euo pipefail
 cd "$(dirname "$(readlink -f "$0")")/.."
 tmp=$(mktemp -d)
 trap 'rm -rf "$tmp"' EXIT
-mkdir -p "$tmp"/crates/one/{src,specs,proofs} "$tmp/bin"
+mkdir -p "$tmp"/crates/{one,cba_c}/{src,specs,proofs} "$tmp/bin" "$tmp/tools"
 cp -r install include VERSION "$tmp"
+cp tools/build "$tmp/tools"
 touch "$tmp/crates.txt" "$tmp/crates/one/src/lib.rt"
 
 cat >"$tmp/bin/rt" <<'EOF'
 #!/bin/sh
-[ "$*" = "staticlib cba" ] && [ ! -e fails ] || exit 1
-mkdir -p target/staticlib
-date +%N >target/staticlib/libcba.a
+[ "$*" = "lib --cpu=x86-64" ] && [ "$(basename "$PWD")" = cba_c ] && [ ! -e ../../fails ] || exit 1
+mkdir -p out
+date +%N >out/libcba_c.a
 EOF
 chmod +x "$tmp/bin/rt"
 

@@ -1,5 +1,5 @@
 //! Finds libcba.a: in the folder that CBA_LIB_DIR names, else where pkg-config has it, else in the repository, where
-//! `rt staticlib cba` writes it. In the repository this crate's version must be the one in the file VERSION.
+//! `tools/build library cba` writes it. In the repository this crate's version must be the one in the file VERSION.
 
 use std::env::{var, var_os};
 use std::fs::read_to_string;

@@ -1,4 +1,4 @@
-// The calls that C gets, and nothing else: `rt staticlib cba` makes libcba.a of them.
+// The calls that C gets, and nothing else: cba_c exports them.
 #![tactic(auto)]
 
 ghost use Rattle.cba_rules.specs.Refusals.{SealCall, OpenCall};
