@@ -1,81 +1,109 @@
-// E: encryption, and the states on its way.
-ghost use Rattle.std.specs.Prelude.{◌≡◌, ◌*◌, ◌≤◌, ◌<◌, suc, length};
+// E: encryption of one block or two, and the states on its way.
+ghost use Rattle.std.specs.Prelude.{◌≡◌, ◌≤◌, ◌<◌};
 ghost use Rattle.octets.specs.Blocks.{block};
-ghost use Rattle.aes_tables.specs.Round.{entry};
 ghost use Rattle.fips197.specs.Schedule.{key_expansion};
-ghost use Rattle.fips197.specs.Cipher.{full_round, rounds, cipher, cipher_over, key_rounds};
-ghost use Rattle.aes.specs.Context.{Encrypts};
+ghost use Rattle.fips197.specs.Steps.{sub_bytes, shift_rows, mix_columns, add_round_key};
+ghost use Rattle.fips197.specs.Cipher.{full_round, rounds, cipher, key_rounds};
 ghost use Rattle.aes_schedule.specs.Words.{block_of};
-ghost use Rattle.aes.specs.Tables.{Entries};
+ghost use Rattle.aes.specs.Pairs.{Both};
 
-use crate::context::{Context, KEYS, round_keys, round_table, rounds_of};
-use crate::table::{add_key, sub_shift, sub_shift_mix};
-use aes_schedule::{Words, read, words_at, write};
+use crate::context::Encryption;
+use crate::pairs::{Blocks, Pair};
+use crate::table::{add_key, mixed};
+use aes_schedule::{Words, boxed_word, read, words_at, write};
 
-// A full round, with round key n.
-pub fn full_round(t: &[u8], w: &[u8], n: usize, k: Words) -> Words
-    requires entries { Entries entry t.now }
-    requires n_in_bounds { 16 * suc n ≤ length w.now }
-    ensures { block_of result ≡ full_round w.now n (block_of k) }
-{
-    add_key(w, n, sub_shift_mix(t, k))
-}
-
-// The first AddRoundKey and n full rounds, with the round table t and the schedule w.
-fn full_rounds(t: &[u8], w: &[u8], n: usize, block: [u8; 16]) -> Words
-    requires entries { Entries entry t.now }
-    requires n_in_bounds { 16 * suc n ≤ length w.now }
-    ensures { block_of result ≡ rounds w.now n block }
-{
-    let mut k = add_key(w, 0, read(block));
-    let mut i = 0;
-    while i < n {
-        let next = full_round(t, w, i + 1, k);
-        k = next;
-        i += 1;
+impl<'a> Encryption<'a> {
+    // SubBytes, ShiftRows, MixColumns. This and the three like it are written out: one function over the
+    // column's as a closure is no plainer, since its contract says four times what the closure gives.
+    fn sub_shift_mix(&self, k: Words) -> Words
+        ensures { block_of result ≡ mix_columns (shift_rows (sub_bytes (block_of k))) }
+    {
+        let t = self.table();
+        Words {
+            a: mixed(t, k.a, k.b, k.c, k.d),
+            b: mixed(t, k.b, k.c, k.d, k.a),
+            c: mixed(t, k.c, k.d, k.a, k.b),
+            d: mixed(t, k.d, k.a, k.b, k.c),
+        }
     }
-    k
-}
 
-// Cipher, with the round table t, the schedule w and nr rounds.
-fn encipher(t: &[u8], w: &[u8], nr: usize, block: [u8; 16]) -> [u8; 16]
-    requires entries { Entries entry t.now }
-    requires le_nr { (1 ≤ nr) × (16 * suc nr ≤ length w.now) }
-    ensures { result ≡ cipher_over w.now nr block }
-{
-    let k = full_rounds(t, w, nr - 1, block);
-    write(add_key(w, nr, sub_shift(t, k)))
-}
+    // SubBytes, ShiftRows.
+    fn sub_shift(&self, k: Words) -> Words
+        ensures { block_of result ≡ shift_rows (sub_bytes (block_of k)) }
+    {
+        let t = self.table();
+        Words {
+            a: boxed_word(t, k.a, k.b, k.c, k.d),
+            b: boxed_word(t, k.b, k.c, k.d, k.a),
+            c: boxed_word(t, k.c, k.d, k.a, k.b),
+            d: boxed_word(t, k.d, k.a, k.b, k.c),
+        }
+    }
 
-// E: the block under the key, whose context is lent.
-pub fn encrypt(key: &[u8], ctx: &Context, block: [u8; 16]) -> [u8; 16]
-    requires { Encrypts key.now ctx.now }
-    ensures { result ≡ cipher key.now block }
-{
-    let c = &ctx[..];
-    encipher(
-        round_table(key, c),
-        round_keys(key, c, KEYS),
-        rounds_of(key),
-        block,
-    )
-}
+    // AddRoundKey, with round key n.
+    fn add_key(&self, n: usize, k: Words) -> Words
+        requires { n ≤ key_rounds self.now }
+        ensures { block_of result ≡ add_round_key (key_expansion self.now) n (block_of k) }
+    {
+        add_key(self.keys(), n, k)
+    }
 
-// The State of encryption after its first AddRoundKey and n full rounds, for a tracer.
-pub fn state_after(key: &[u8], ctx: &Context, n: usize, block: [u8; 16]) -> [u8; 16]
-    requires encrypts { Encrypts key.now ctx.now }
-    requires n_bound { n < key_rounds key.now }
-    ensures { result ≡ rounds (key_expansion key.now) n block }
-{
-    let c = &ctx[..];
-    write(full_rounds(round_table(key, c), round_keys(key, c, KEYS), n, block))
-}
+    // A full round, with round key n.
+    fn full_round(&self, n: usize, k: Words) -> Words
+        requires { n ≤ key_rounds self.now }
+        ensures { block_of result ≡ full_round (key_expansion self.now) n (block_of k) }
+    {
+        self.add_key(n, self.sub_shift_mix(k))
+    }
 
-// Round key n of the key's schedule, for a tracer.
-pub fn round_key(key: &[u8], ctx: &Context, n: usize) -> [u8; 16]
-    requires encrypts { Encrypts key.now ctx.now }
-    requires n_bound { n ≤ key_rounds key.now }
-    ensures { result ≡ block 16 (key_expansion key.now) n }
-{
-    write(words_at(round_keys(key, &ctx[..], KEYS), 16 * n))
+    // The first AddRoundKey and n full rounds.
+    fn full_rounds<B: Blocks>(&self, n: usize, s: B) -> B
+        requires { n ≤ key_rounds self.now }
+        ensures { B.Each (rounds (key_expansion self.now) n) s result }
+    {
+        let mut k = s.each(|b| self.add_key(0, b));
+        for i in 0..n {
+            k = k.each(|b| self.full_round(i + 1, b));
+        }
+        k
+    }
+
+    // Cipher.
+    fn encipher<B: Blocks>(&self, s: B) -> B
+        ensures { B.Each (cipher self.now) s result }
+    {
+        let nr = self.rounds();
+        let k = self.full_rounds(nr - 1, s);
+        k.each(|b| self.add_key(nr, self.sub_shift(b)))
+    }
+
+    // E of a block.
+    pub fn encrypt(&self, block: [u8; 16]) -> [u8; 16]
+        ensures { result ≡ cipher self.now block }
+    {
+        write(self.encipher(read(block)))
+    }
+
+    // E of two blocks.
+    pub fn encrypt_pair(&self, p: Pair) -> Pair
+        ensures { Both (cipher self.now) p result }
+    {
+        self.encipher(p)
+    }
+
+    // The State after the first AddRoundKey and n full rounds, for a tracer.
+    pub fn state_after(&self, n: usize, block: [u8; 16]) -> [u8; 16]
+        requires { n < key_rounds self.now }
+        ensures { result ≡ rounds (key_expansion self.now) n block }
+    {
+        write(self.full_rounds(n, read(block)))
+    }
+
+    // Round key n of the key's schedule, for a tracer.
+    pub fn round_key(&self, n: usize) -> [u8; 16]
+        requires { n ≤ key_rounds self.now }
+        ensures { result ≡ block 16 (key_expansion self.now) n }
+    {
+        write(words_at(self.keys(), 16 * n))
+    }
 }

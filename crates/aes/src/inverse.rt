@@ -1,157 +1,137 @@
-// D: decryption as the equivalent inverse cipher, on words, and the states on its way.
-ghost use Rattle.std.specs.Prelude.{◌≡◌, ◌*◌, ◌≤◌, ◌<◌, suc, length};
-ghost use Rattle.octets.specs.Strings.{table};
-ghost use Rattle.field.specs.SBox.{inv_s_box};
-ghost use Rattle.aes_tables.specs.Round.{inverse_entry};
-ghost use Rattle.fips197.specs.Steps.{inv_sub_bytes, inv_shift_rows, inv_mix_columns};
+// D: decryption of one block or two as the equivalent inverse cipher, and the states on its way. It is
+// not one generic with E: the table of the last round, the order of the round keys and each law differ.
+ghost use Rattle.std.specs.Prelude.{◌≡◌, ◌*◌, ◌≤◌, ◌<◌};
+ghost use Rattle.fips197.specs.Steps.{inv_sub_bytes, inv_shift_rows, inv_mix_columns, add_round_key};
 ghost use Rattle.fips197.specs.Cipher.{inv_cipher, key_rounds};
-ghost use Rattle.fips197.specs.Equivalent.{eq_full_round, eq_rounds, eq_inv_cipher_over, key_expansion_eic, eq_state};
-ghost use Rattle.aes.specs.Context.{Decrypts};
+ghost use Rattle.fips197.specs.Equivalent.{eq_full_round, eq_rounds, key_expansion_eic, eq_state};
 ghost use Rattle.aes_schedule.specs.Words.{block_of};
-ghost use Rattle.aes.specs.Tables.{Entries};
+ghost use Rattle.aes.specs.Pairs.{Both};
 
-use crate::context::{INVERSE_KEYS, Inverse, inverse_s_box, inverse_table, round_keys, rounds_of};
+use crate::context::Decryption;
+use crate::pairs::{Blocks, Pair};
 use crate::table::{add_key, mixed};
 use aes_schedule::{Words, look_up, read, write};
 
-// InvSubBytes, for a tracer.
-fn inv_sub(s: &[u8], k: Words) -> Words
-    requires { s.now ≡ table inv_s_box 256 }
-    ensures { block_of result ≡ inv_sub_bytes (block_of k) }
-{
-    Words {
-        a: look_up(s, k.a, k.a, k.a, k.a),
-        b: look_up(s, k.b, k.b, k.b, k.b),
-        c: look_up(s, k.c, k.c, k.c, k.c),
-        d: look_up(s, k.d, k.d, k.d, k.d),
+impl<'a> Decryption<'a> {
+    // InvSubBytes, for a tracer.
+    fn inv_sub(&self, k: Words) -> Words
+        ensures { block_of result ≡ inv_sub_bytes (block_of k) }
+    {
+        let s = self.s_box();
+        Words {
+            a: look_up(s, k.a, k.a, k.a, k.a),
+            b: look_up(s, k.b, k.b, k.b, k.b),
+            c: look_up(s, k.c, k.c, k.c, k.c),
+            d: look_up(s, k.d, k.d, k.d, k.d),
+        }
     }
-}
 
-// InvSubBytes, InvShiftRows.
-pub fn inv_sub_shift(s: &[u8], k: Words) -> Words
-    requires { s.now ≡ table inv_s_box 256 }
-    ensures { block_of result ≡ inv_shift_rows (inv_sub_bytes (block_of k)) }
-{
-    Words {
-        a: look_up(s, k.a, k.d, k.c, k.b),
-        b: look_up(s, k.b, k.a, k.d, k.c),
-        c: look_up(s, k.c, k.b, k.a, k.d),
-        d: look_up(s, k.d, k.c, k.b, k.a),
+    // InvSubBytes, InvShiftRows.
+    fn inv_sub_shift(&self, k: Words) -> Words
+        ensures { block_of result ≡ inv_shift_rows (inv_sub_bytes (block_of k)) }
+    {
+        let s = self.s_box();
+        Words {
+            a: look_up(s, k.a, k.d, k.c, k.b),
+            b: look_up(s, k.b, k.a, k.d, k.c),
+            c: look_up(s, k.c, k.b, k.a, k.d),
+            d: look_up(s, k.d, k.c, k.b, k.a),
+        }
     }
-}
 
-// InvSubBytes, InvShiftRows, InvMixColumns.
-fn inv_sub_shift_mix(t: &[u8], k: Words) -> Words
-    requires { Entries inverse_entry t.now }
-    ensures { block_of result ≡ inv_mix_columns (inv_shift_rows (inv_sub_bytes (block_of k))) }
-{
-    Words {
-        a: mixed(t, k.a, k.d, k.c, k.b),
-        b: mixed(t, k.b, k.a, k.d, k.c),
-        c: mixed(t, k.c, k.b, k.a, k.d),
-        d: mixed(t, k.d, k.c, k.b, k.a),
+    // InvSubBytes, InvShiftRows, InvMixColumns.
+    fn inv_sub_shift_mix(&self, k: Words) -> Words
+        ensures { block_of result ≡ inv_mix_columns (inv_shift_rows (inv_sub_bytes (block_of k))) }
+    {
+        let t = self.table();
+        Words {
+            a: mixed(t, k.a, k.d, k.c, k.b),
+            b: mixed(t, k.b, k.a, k.d, k.c),
+            c: mixed(t, k.c, k.b, k.a, k.d),
+            d: mixed(t, k.d, k.c, k.b, k.a),
+        }
     }
-}
 
-// A full round, with round key n.
-pub fn full_inv_round(t: &[u8], w: &[u8], n: usize, k: Words) -> Words
-    requires entries { Entries inverse_entry t.now }
-    requires n_in_bounds { 16 * suc n ≤ length w.now }
-    ensures { block_of result ≡ eq_full_round w.now n (block_of k) }
-{
-    add_key(w, n, inv_sub_shift_mix(t, k))
-}
-
-// The first AddRoundKey, with round key nr, and n full rounds, with round keys nr - 1, nr - 2, ..;
-// t is the table of decryption and w its schedule.
-fn full_inv_rounds(t: &[u8], w: &[u8], nr: usize, n: usize, block: Words) -> Words
-    requires entries { Entries inverse_entry t.now }
-    requires n_le_nr { (n ≤ nr) × (16 * suc nr ≤ length w.now) }
-    ensures { block_of result ≡ eq_rounds w.now nr n (block_of block) }
-{
-    let mut k = add_key(w, nr, block);
-    let mut i = 0;
-    while i < n {
-        let next = full_inv_round(t, w, nr - (i + 1), k);
-        k = next;
-        i += 1;
+    // AddRoundKey, with round key n.
+    fn add_key(&self, n: usize, k: Words) -> Words
+        requires { n ≤ key_rounds self.now }
+        ensures { block_of result ≡ add_round_key (key_expansion_eic self.now) n (block_of k) }
+    {
+        add_key(self.keys(), n, k)
     }
-    k
-}
 
-// EqInvCipher, with the tables t and s, the schedule w and nr rounds.
-fn decipher(t: &[u8], s: &[u8], w: &[u8], nr: usize, block: Words) -> Words
-    requires entries { Entries inverse_entry t.now }
-    requires s_value { s.now ≡ table inv_s_box 256 }
-    requires le_nr { (1 ≤ nr) × (16 * suc nr ≤ length w.now) }
-    ensures { block_of result ≡ eq_inv_cipher_over w.now nr (block_of block) }
-{
-    let k = full_inv_rounds(t, w, nr, nr - 1, block);
-    add_key(w, 0, inv_sub_shift(s, k))
-}
-
-// D on words: a caller that has the block as words need not take it apart.
-pub fn decrypt_words(key: &[u8], inv: &Inverse, block: Words) -> Words
-    requires { Decrypts key.now inv.now }
-    ensures { block_of result ≡ inv_cipher key.now (block_of block) }
-{
-    let i = &inv[..];
-    decipher(
-        inverse_table(key, i),
-        inverse_s_box(key, i),
-        round_keys(key, i, INVERSE_KEYS),
-        rounds_of(key),
-        block,
-    )
-}
-
-// D: the block under the key, whose context for decryption is lent.
-pub fn decrypt(key: &[u8], inv: &Inverse, block: [u8; 16]) -> [u8; 16]
-    requires { Decrypts key.now inv.now }
-    ensures { result ≡ inv_cipher key.now block }
-{
-    write(decrypt_words(key, inv, read(block)))
-}
-
-// The State after step k, with the tables t and s, the schedule w and nr rounds: the whole rounds
-// before it, and the steps of its own round.
-fn state_at(t: &[u8], s: &[u8], w: &[u8], nr: usize, k: usize, block: Words) -> Words
-    requires entries { Entries inverse_entry t.now }
-    requires s_value { s.now ≡ table inv_s_box 256 }
-    requires k_bound { (k < 4 * nr) × (16 * suc nr ≤ length w.now) }
-    ensures { block_of result ≡ eq_state w.now nr k (block_of block) }
-{
-    let n = k / 4;
-    let j = k % 4;
-    let x = full_inv_rounds(t, w, nr, n, block);
-    if j == 0 {
-        return x;
+    // A full round, with round key n.
+    fn full_inv_round(&self, n: usize, k: Words) -> Words
+        requires { n ≤ key_rounds self.now }
+        ensures { block_of result ≡ eq_full_round (key_expansion_eic self.now) n (block_of k) }
+    {
+        self.add_key(n, self.inv_sub_shift_mix(k))
     }
-    if j == 1 {
-        return inv_sub(s, x);
-    }
-    if j == 2 {
-        return inv_sub_shift(s, x);
-    }
-    if n + 1 == nr {
-        return add_key(w, 0, inv_sub_shift(s, x));
-    }
-    inv_sub_shift_mix(t, x)
-}
 
-// The State of decryption after step k, from 0, for a tracer.
-pub fn inverse_state(key: &[u8], inv: &Inverse, k: usize, block: [u8; 16]) -> [u8; 16]
-    requires decrypts { Decrypts key.now inv.now }
-    requires k_bound { k < 4 * key_rounds key.now }
-    ensures { result ≡ eq_state (key_expansion_eic key.now) (key_rounds key.now) k block }
-{
-    let i = &inv[..];
-    write(state_at(
-        inverse_table(key, i),
-        inverse_s_box(key, i),
-        round_keys(key, i, INVERSE_KEYS),
-        rounds_of(key),
-        k,
-        read(block),
-    ))
+    // The first AddRoundKey, with the last round key, and n full rounds, with those before it.
+    fn full_inv_rounds<B: Blocks>(&self, n: usize, s: B) -> B
+        requires { n ≤ key_rounds self.now }
+        ensures { B.Each (eq_rounds (key_expansion_eic self.now) (key_rounds self.now) n) s result }
+    {
+        let nr = self.rounds();
+        let mut k = s.each(|b| self.add_key(nr, b));
+        for i in 0..n {
+            k = k.each(|b| self.full_inv_round(nr - (i + 1), b));
+        }
+        k
+    }
+
+    // EqInvCipher, which is InvCipher.
+    fn decipher<B: Blocks>(&self, s: B) -> B
+        ensures { B.Each (inv_cipher self.now) s result }
+    {
+        let nr = self.rounds();
+        let k = self.full_inv_rounds(nr - 1, s);
+        k.each(|b| self.add_key(0, self.inv_sub_shift(b)))
+    }
+
+    // D of a block.
+    pub fn decrypt(&self, block: [u8; 16]) -> [u8; 16]
+        ensures { result ≡ inv_cipher self.now block }
+    {
+        write(self.decipher(read(block)))
+    }
+
+    // D on words: a caller that has the block as words need not take it apart.
+    pub fn decrypt_words(&self, block: Words) -> Words
+        ensures { block_of result ≡ inv_cipher self.now (block_of block) }
+    {
+        self.decipher(block)
+    }
+
+    // D of two blocks.
+    pub fn decrypt_pair(&self, p: Pair) -> Pair
+        ensures { Both (inv_cipher self.now) p result }
+    {
+        self.decipher(p)
+    }
+
+    // The State after step k: the whole rounds before it, and the steps of its own round.
+    fn state_at(&self, k: usize, block: Words) -> Words
+        requires { k < 4 * key_rounds self.now }
+        ensures { block_of result ≡ eq_state (key_expansion_eic self.now) (key_rounds self.now) k (block_of block) }
+    {
+        let n = k / 4;
+        let x = self.full_inv_rounds(n, block);
+        match k % 4 {
+            0 => x,
+            1 => self.inv_sub(x),
+            2 => self.inv_sub_shift(x),
+            _ if n + 1 == self.rounds() => self.add_key(0, self.inv_sub_shift(x)),
+            _ => self.inv_sub_shift_mix(x),
+        }
+    }
+
+    // The State of decryption after step k, from 0, for a tracer.
+    pub fn inverse_state(&self, k: usize, block: [u8; 16]) -> [u8; 16]
+        requires { k < 4 * key_rounds self.now }
+        ensures { result ≡ eq_state (key_expansion_eic self.now) (key_rounds self.now) k block }
+    {
+        write(self.state_at(k, read(block)))
+    }
 }

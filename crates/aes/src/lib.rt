@@ -15,10 +15,10 @@ ghost use Rattle.std.specs.Prelude.{◌≡◌};
 ghost use Rattle.fips197.specs.Cipher.{cipher, inv_cipher};
 ghost use Rattle.aes.specs.Context.{answer, answered};
 
-pub use cipher::{encrypt, round_key, state_after};
-pub use context::{Context, Inverse, blank, blank_inverse, fill, fill_inverse, is_key};
-pub use inverse::{decrypt, decrypt_words, inverse_state};
-pub use pairs::{Pair, decrypt_pair, encrypt_pair, xor_pair};
+pub use context::{
+    Context, Decryption, Encryption, Inverse, blank, blank_inverse, fill, fill_inverse, is_key,
+};
+pub use pairs::{Blocks, Pair};
 
 // Encrypts a block in place and answers 0, or answers 2 and leaves the block where the key has
 // not 16, 24 or 32 bytes.
@@ -29,9 +29,8 @@ pub extern "C" fn aes_encrypt(key: &[u8], block: &mut [u8; 16]) -> u32
 {
     if is_key(key) {
         let mut ctx = blank();
-        fill(key, &mut ctx);
-        let b = *block;
-        *block = encrypt(key, &ctx, b);
+        let e = Encryption::new(key, &mut ctx);
+        *block = e.encrypt(*block);
         return 0;
     }
     2
@@ -45,11 +44,10 @@ pub extern "C" fn aes_decrypt(key: &[u8], block: &mut [u8; 16]) -> u32
 {
     if is_key(key) {
         let mut ctx = blank();
-        fill(key, &mut ctx);
+        let e = Encryption::new(key, &mut ctx);
         let mut inv = blank_inverse();
-        fill_inverse(key, &ctx, &mut inv);
-        let b = *block;
-        *block = decrypt(key, &inv, b);
+        let d = Decryption::new(&e, &mut inv);
+        *block = d.decrypt(*block);
         return 0;
     }
     2

@@ -192,6 +192,13 @@ module _ {key d : List ℕ} {at nk : ℕ} {w : List ℕ} {x : ℕ} {p : Place} {
       temp_other nk (nk + (m + 1)) t (λ h. omega arith) (λ h. omega arith)
 
   -- two words more have been written
-  pub turned : {w' : List ℕ} {x' : ℕ} {p' : Place} → Expanding key d at nk w' x' (m + 1 + 1) → Paired nk p' → passed nk p' ≡ passed nk p + 2 →
-      Turning key d at nk w' x' p' (m + 2)
-  turned e a n = let s : m + 2 ≡ m + 1 + 1 = omega arith in record { words = rw s e; place = a; so_many = omega arith; pairs = omega arith }
+  pub turned : {w' : List ℕ} {x' : ℕ} {p' : Place} → (i : ℕ) → m ≡ 2 * i → Expanding key d at nk w' x' (m + 1 + 1) → Paired nk p' → passed nk p' ≡ passed nk p + 2 →
+      Turning key d at nk w' x' p' (2 * (i + 1))
+  turned i h e a n = let s : 2 * (i + 1) ≡ m + 1 + 1 = omega arith in record { words = rw s e; place = a; so_many = omega arith; pairs = omega arith }
+
+  -- the key words are even in number, so the last turn ends with the last word
+  pub ended : (i : ℕ) → m ≡ 2 * i → (3 * nk + 28) / 2 ≤ i → 3 * nk + 28 ≤ m
+  ended i e h = let n : nk % 2 ≡ 0 = v.place.even in omega arith
+
+  pub begun_turn : (i : ℕ) → m ≡ 2 * i → i < (3 * nk + 28) / 2 → m < 3 * nk + 28
+  begun_turn i e h = omega arith

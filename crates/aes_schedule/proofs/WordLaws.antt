@@ -2,10 +2,10 @@
 -- Assumes nothing.
 use mathlib.Core.Path.{◌≡◌, refl, sym, ap, ap₂, ◌∙◌}
 use mathlib.Core.List.{List, [], ◌∷◌, ◌++◌}
-use Prim.Native.Nat.{ℕ, ◌+◌, ◌*◌, ◌/◌, ◌%◌, ◌<◌, ◌≤◌}
+use Prim.Native.Nat.{ℕ, ◌+◌, ◌*◌, ◌^◌, ◌/◌, ◌%◌, ◌<◌, ◌≤◌}
 use native.Mathlib.Nat.{div-div-eq-div-mul}
 use native.Mathlib.Omega.{arith}
-use lib.Bits.{bit_xor, xor_shr, xor_mod}
+use lib.Bits.{bit_or, bit_xor, or_shifted_r, xor_shr, xor_mod}
 use lib.ListN.{length, get_or, take, drop, length-drop}
 use lib.Seq.{get_or-drop, drop-drop, take-add}
 use Rattle.octets.specs.Strings.{table}
@@ -26,14 +26,17 @@ joined_bytes a b c d ha hb hc hd = four (omega arith) (omega arith) (omega arith
 high_half : (x : ℕ) → x < 4294967296 → x / 65536 ≡ x / 65536 % 256 + 256 * (x / 16777216 % 256)
 high_half x h = omega (arith, div-div-eq-div-mul x 65536 256)
 
-pub rotated-bytes : (x : ℕ) → x < 4294967296 → bytes_of (x / 256 + x % 256 * 16777216) ≡ x / 256 % 256 ∷ x / 65536 % 256 ∷ x / 16777216 % 256 ∷ x % 256 ∷ []
+pub rotated-bytes : (x : ℕ) → x < 4294967296 →
+    bytes_of (bit_or (x / 256) (x * 16777216 % 4294967296)) ≡ x / 256 % 256 ∷ x / 65536 % 256 ∷ x / 16777216 % 256 ∷ x % 256 ∷ []
 rotated-bytes x h =
     let a = x % 256 in
     let b = x / 256 % 256 in
     let c = x / 65536 % 256 in
     let d = x / 16777216 % 256 in
-    let e : x / 256 + x % 256 * 16777216 ≡ b + 256 * c + 65536 * d + 16777216 * a = omega (arith, div-div-eq-div-mul x 256 256, high_half x h) in
-    ap bytes_of e ∙ joined_bytes b c d a (omega arith) (omega arith) (omega arith) (omega arith)
+    let low : x * 16777216 % 4294967296 ≡ a * 2 ^ 24 = omega arith in
+    let e : a * 2 ^ 24 + x / 256 ≡ b + 256 * c + 65536 * d + 16777216 * a = omega (arith, div-div-eq-div-mul x 256 256, high_half x h) in
+    ap bytes_of (ap (bit_or (x / 256)) low ∙ or_shifted_r a 24 (x / 256) (omega arith) ∙ e)
+    ∙ joined_bytes b c d a (omega arith) (omega arith) (omega arith) (omega arith)
 
 pub xor_bytes : (x y : ℕ) → bytes_of (bit_xor x y) ≡ xors (bytes_of x) (bytes_of y)
 unfolding xors

@@ -4,7 +4,5 @@
 mod schedule;
 mod words;
 
-pub use schedule::{boxed, expand};
-pub use words::{
-    Words, first, fourth, join, look_up, read, second, third, word_at, words_at, write, xor_words,
-};
+pub use schedule::{boxed, boxed_word, expand};
+pub use words::{Words, byte, join, look_up, read, word_at, words_at, write};

@@ -1,5 +1,5 @@
 // The key schedule, as the bytes of its words, over the number of key words nk = 4, 6, 8.
-ghost use Rattle.std.specs.Prelude.{◌≡◌, true, ◌++◌, ◌+◌, ◌*◌, ◌≤◌, ◌<◌, length, take, drop};
+ghost use Rattle.std.specs.Prelude.{◌≡◌, true, [], ◌∷◌, ◌++◌, ◌/◌, ◌%◌, ◌+◌, ◌*◌, ◌≤◌, ◌<◌, length, take, drop};
 ghost use Rattle.octets.specs.Strings.{over};
 ghost use Rattle.octets.specs.Xor.{xors};
 ghost use Rattle.field.specs.SBox.{s_box};
@@ -8,7 +8,7 @@ ghost use Rattle.aes_schedule.specs.Boxes.{Boxes};
 ghost use Rattle.aes_schedule.specs.Place.{passed, Paired};
 ghost use Rattle.aes_schedule.specs.Words.{bytes_of, word_at};
 
-use crate::words::{first, fourth, join, second, split, third, word_at};
+use crate::words::{byte, join, split, word_at};
 
 // The powers of x in the byte field that the words Rcon begin with.
 const POWERS: [u8; 10] = [0x01, 0x02, 0x04, 0x08, 0x10, 0x20, 0x40, 0x80, 0x1b, 0x36];
@@ -31,10 +31,11 @@ fn power_of(j: usize) -> u8
 fn rot_word(x: u32) -> u32
     ensures { bytes_of result ≡ rot_word (bytes_of x) }
 {
-    x / 256 + x % 256 * 16777216
+    x.rotate_right(8)
 }
 
-// The S-box of a byte: the second byte of its entry, of eight bytes, in the round table.
+// The S-box of a byte: the second byte of its entry, of eight bytes, in the round table. That is no
+// type of its own, since one array holds it and the schedule, and expand reads S there as it writes.
 pub fn boxed(t: &[u8], x: u8) -> u8
     requires { Boxes t.now }
     ensures { result ≡ s_box x }
@@ -42,16 +43,25 @@ pub fn boxed(t: &[u8], x: u8) -> u8
     t[8 * x as usize + 1]
 }
 
+// The S-box of the bytes of four words in turn.
+pub fn boxed_word(t: &[u8], a: u32, b: u32, c: u32, d: u32) -> u32
+    requires { Boxes t.now }
+    ensures { bytes_of result ≡
+        s_box (a % 256) ∷ s_box (b / 256 % 256) ∷ s_box (c / 65536 % 256) ∷ s_box (d / 16777216 % 256) ∷ [] }
+{
+    join(
+        boxed(t, byte(a, 0)),
+        boxed(t, byte(b, 1)),
+        boxed(t, byte(c, 2)),
+        boxed(t, byte(d, 3)),
+    )
+}
+
 fn sub_word(t: &[u8], x: u32) -> u32
     requires { Boxes t.now }
     ensures { bytes_of result ≡ sub_word (bytes_of x) }
 {
-    join(
-        boxed(t, first(x)),
-        boxed(t, second(x)),
-        boxed(t, third(x)),
-        boxed(t, fourth(x)),
-    )
+    boxed_word(t, x, x, x, x)
 }
 
 // What goes into the word at a place beside the word nk before it, from the word before it.
@@ -60,16 +70,11 @@ fn step_word(t: &[u8], nk: usize, p: Place, x: u32) -> u32
     requires k_lt_nk { (p.k < nk) × (p.q < 10) }
     ensures { bytes_of result ≡ temp nk (nk + passed nk p) (bytes_of x) }
 {
-    if p.k == 0 {
-        let y = sub_word(t, rot_word(x));
-        return y ^ power_of(p.q) as u32;
+    match p.k {
+        0 => sub_word(t, rot_word(x)) ^ power_of(p.q) as u32,
+        4 if nk > 6 => sub_word(t, x),
+        _ => x,
     }
-    if nk > 6 {
-        if p.k == 4 {
-            return sub_word(t, x);
-        }
-    }
-    x
 }
 
 // The word after the key's words and m more, from the word before it; the schedule stands at a
@@ -110,8 +115,8 @@ pub fn expand(key: &[u8], at: usize, ctx: &mut [u8])
     octets::put(&mut ctx[at..], key);
     let mut x = word_at(key, 4 * (nk - 1));
     let mut p = Place { k: 0, q: 0 };
-    let mut m = 0;
-    while m < 3 * nk + 28 {
+    for i in 0..(3 * nk + 28) / 2 {
+        let m = 2 * i;
         let a = next_word(ctx, at, nk, p, m, x);
         octets::put(&mut ctx[at + 4 * (nk + m)..], &split(a));
         // nk is even, so the second word of a turn is never one that S goes into
@@ -119,6 +124,5 @@ pub fn expand(key: &[u8], at: usize, ctx: &mut [u8])
         octets::put(&mut ctx[at + 4 * (nk + (m + 1))..], &split(b));
         x = b;
         p = next_place(nk, p);
-        m += 2;
     }
 }

@@ -1,7 +1,7 @@
 -- What the joined and the separate form read after C_0, put together from their parts.
 -- Assumes nothing.
 use mathlib.Core.Path.{◌≡◌, refl, sym, ap, ap₂, ◌∙◌}
-use mathlib.Core.Bool.{Bool, true, false}
+use mathlib.Core.Bool.{Bool}
 use mathlib.Core.List.{List, ◌++◌}
 use Prim.Native.Nat.{ℕ, ◌+◌, ◌-◌, ◌*◌, ◌≤◌}
 use native.Mathlib.Omega.{arith}
@@ -19,7 +19,6 @@ use Rattle.cba_mode.specs.Open.{Attempt, Tried, verified, after, from_blocks, jo
 use Rattle.cba_mode.proofs.Undoing.{plain-cipher}
 use Rattle.cba_sealing.specs.declared.blocks.Running.{Running}
 use Rattle.cba_sealing.specs.Calls.{Passed, tag_block}
-use Rattle.cba_opening.specs.Calls.{end_as}
 use Rattle.octets.proofs.Parts.{then, to_end, rest-size, size_of}
 
 -- the place where a string ends without its last t bytes, from a part of it
@@ -92,8 +91,8 @@ module _ (E D : List ℕ → List ℕ) where
       (r ≡ eqs (last_bytes (length tag) (joined_rest E D Δ (take n rest) m)) tag)
       × (w ≡ but_last (length tag) (joined_rest E D Δ (take n rest) m) ++ drop (length (take n rest) - length tag) (take (length out - 16) (drop 16 out))) →
       length w ≡ length (take (length out - 16) (drop 16 out)) →
-      Tried (end_as true E D tag Δ S rest) (length rest - length tag) r d (take 16 out ++ (w ++ drop (length out - 16) (drop 16 out)))
-  unfolding end_as joined_attempt verified but_last last_bytes
+      Tried (joined_attempt E D (8 * length tag) tag Δ S rest) (length rest - length tag) r d (take 16 out ++ (w ++ drop (length out - 16) (drop 16 out)))
+  unfolding joined_attempt verified but_last last_bytes
   joined_end_turn tag Δ S rest last m d out w r h hd el em lm eo lo t lw =
       let n = length rest - 16 in
       let lt : length tag ≡ tag_bytes (8 * length tag) = omega arith in
@@ -113,8 +112,8 @@ module _ (E D : List ℕ → List ℕ) where
       length tag ≤ length rest → length rest ≤ length d + length tag →
       out ≡ last_block E Δ tag (take n rest) ++ drop (length (take n rest)) d → length out ≡ length d → e ≡ tag_block E Δ tag S (take n out) →
       r ≡ eqs (take (length rest - n) (drop n rest)) (take (length tag) e) →
-      Tried (end_as false E D tag Δ S rest) (length rest - length tag) r d out
-  unfolding end_as separate_attempt verified but_last last_bytes separate_tag
+      Tried (separate_attempt E D (8 * length tag) tag Δ S rest) (length rest - length tag) r d out
+  unfolding separate_attempt verified but_last last_bytes separate_tag
   separate_end_turn tag Δ S rest d e out r h hd eo lo ee er =
       let n = length rest - length tag in
       let lt : length tag ≡ tag_bytes (8 * length tag) = omega arith in

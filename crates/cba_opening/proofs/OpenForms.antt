@@ -2,6 +2,8 @@
 -- Assumes nothing.
 use mathlib.Core.Path.{◌≡◌, refl, sym, ap, ap₂, subst, ◌∙◌}
 use mathlib.Core.Bool.{Bool, true, false, cond}
+use Rattle.cba_steps.specs.declared.endings.Ending.{Ending}
+use Rattle.cba_steps.specs.declared.endings.Ending.TheVariants.{Joined, Separate}
 use mathlib.Core.List.{List, ◌++◌}
 use Prim.Native.Nat.{ℕ, ◌+◌, ◌-◌, ◌*◌, ◌/◌, ◌≤◌}
 use native.Mathlib.Omega.{arith}
@@ -18,7 +20,7 @@ use Rattle.cba_mode.specs.Offsets.{F, pad, leading, last_bytes, but_last}
 use Rattle.cba_mode.specs.Seal.{Δ₀, masked, short_tag, T, last_block, separate_tag}
 use Rattle.cba_mode.specs.Open.{Opened, Attempt, Tried, Answered, verified, check, is_false, message_of, after, from_blocks, joined_plain, joined_rest, joined_attempt, separate_attempt, attempt, open_with}
 use Rattle.cba_mode.proofs.FormLaws.{open_short, same-form}
-use Rattle.cba_steps.specs.Endings.{form_of, Ends}
+use Rattle.cba_steps.specs.Endings.{form_of, blocks_of, Ends}
 use Rattle.cba_sealing.specs.Calls.{tag_block}
 use Rattle.cba_sealing.proofs.SealForms.{Headed, tag-size, tag_end}
 use Rattle.cba_opening.specs.Calls.{end_as}
@@ -29,8 +31,8 @@ pub first-room : (l t n d o : ℕ) → l + t ≤ n → n ≤ d + t → o ≡ d �
 first-room l t n d o g h e = omega arith
 
 -- what follows C_0 without its tag, and what is without its tag after C_0
-pub ends-after : (n l : ℕ) {j : Bool} {k t : ℕ} → Ends j k t (n - t - l) → Ends j k t (n - l - t)
-ends-after n l {j} {k} {t} h = subst (λ (m : ℕ). Ends j k t m) {x = n - t - l} {y = n - l - t} (omega arith) h
+pub ends-after : (n l : ℕ) {e : Ending} {t : ℕ} → Ends e t (n - t - l) → Ends e t (n - l - t)
+ends-after n l {e} {t} h = subst (λ (m : ℕ). Ends e t m) {x = n - t - l} {y = n - l - t} (omega arith) h
 
 -- an end needs τ for the tag's length alone
 joined_alone : (E D : List ℕ → List ℕ) (σ τ : ℕ) → tag_bytes σ ≡ tag_bytes τ → joined_attempt E D σ ≡ joined_attempt E D τ
@@ -69,37 +71,37 @@ module _ (E D : List ℕ → List ℕ) (τ b : ℕ) (N Ta : List ℕ) where
       (er ∙ ap₂ eqs (to_end C n) (ap (take t) ee), eo ∙ ap (λ (k : ℕ). masked E τ b N (take n C) ++ drop k d) l))
 
   -- the tail by its ending is that of the form
-  tail-form : (j : Bool) (k : ℕ) (C : List ℕ) → (let L = ell τ b / 8 in let Tag = T τ Ta (take L C) in
-      Ends j k (tag_bytes τ) (length C - tag_bytes τ - L) → length Tag ≡ tag_bytes τ →
-      after (masked E τ b N (take L C)) (from_blocks E D (end_as j E D Tag) (Δ₀ E τ b N) (drop L C) k) ≡ attempt E D τ b (form_of j) N Ta C)
+  tail-form : (e : Ending) (C : List ℕ) → (let L = ell τ b / 8 in let Tag = T τ Ta (take L C) in
+      Ends e (tag_bytes τ) (length C - tag_bytes τ - L) → length Tag ≡ tag_bytes τ →
+      after (masked E τ b N (take L C)) (from_blocks E D (end_as e E D Tag) (Δ₀ E τ b N) (drop L C) (blocks_of e)) ≡ attempt E D τ b (form_of e) N Ta C)
   unfolding attempt end_as
-  tail-form true k C h s =
+  tail-form (Joined k) C h s =
       let L = ell τ b / 8 in
       let Tag = T τ Ta (take L C) in
       let e : k ≡ full_blocks L (length C) - 1 = h.told ∙ ap (λ (n : ℕ). (n - 1) / 16 - 1) {x = length C - tag_bytes τ - L + tag_bytes τ} {y = length C - L} (omega (arith, h.within)) in
       ap₂ (λ (i : ℕ) (end : List ℕ → List ℕ → List ℕ → List ℕ → Attempt). after (masked E τ b N (take L C)) (from_blocks E D (end Tag) (Δ₀ E τ b N) (drop L C) i)) e
       (joined_alone E D (8 * length Tag) τ (omega (arith, s)))
-  tail-form false k C h s =
+  tail-form (Separate k) C h s =
       let L = ell τ b / 8 in
       let Tag = T τ Ta (take L C) in
       let e : k ≡ full_blocks L (length C) - 1 = h.told ∙ ap (λ (n : ℕ). (n - 1) / 16 - 1) {x = length C - tag_bytes τ - L + tag_bytes τ} {y = length C - L} (omega (arith, h.within)) in
       ap₂ (λ (i : ℕ) (end : List ℕ → List ℕ → List ℕ → List ℕ → Attempt). after (masked E τ b N (take L C)) (from_blocks E D (end Tag) (Δ₀ E τ b N) (drop L C) i)) e
       (separate_alone E D (8 * length Tag) τ (omega (arith, s)))
 
-  pub long-turn : {C d out whole Δ : List ℕ} {l t k : ℕ} {j r : Bool} (w : List ℕ) → Headed E τ b N Ta (take l C) C d out whole Δ (length C - tag_bytes τ) l t →
-      l + tag_bytes τ ≤ length C → seal_form l t (length C - t) ≡ form_of j → Ends j k t (length C - t - l) →
+  pub long-turn : {C d out whole Δ : List ℕ} {l t : ℕ} {end : Ending} {r : Bool} (w : List ℕ) → Headed E τ b N Ta (take l C) C d out whole Δ (length C - tag_bytes τ) l t →
+      l + tag_bytes τ ≤ length C → seal_form l t (length C - t) ≡ form_of end → Ends end t (length C - t - l) →
       (let tag = take (16 - (16 - t)) (drop (16 - t) whole) in
       let rest = take (length C - l) (drop l C) in
-      Tried (from_blocks E D (end_as j E D tag) Δ rest k) (length rest - length tag) r (take (length out - l) (drop l out)) w) →
+      Tried (from_blocks E D (end_as end E D tag) Δ rest (blocks_of end)) (length rest - length tag) r (take (length out - l) (drop l out)) w) →
       length w ≡ length (take (length out - l) (drop l out)) →
       Tried (attempt E D τ b (open_form (ell τ b / 8) (tag_bytes τ) (length C)) N Ta C) (length C - tag_bytes τ) r d
       (take l out ++ (w ++ drop (length out - l) (drop l out)))
-  long-turn {C} {d} {out} {whole} {Δ} {l} {t} {k} {j} {r} w v h f ends tried lw =
+  long-turn {C} {d} {out} {whole} {Δ} {l} {t} {end} {r} w v h f ends tried lw =
       let L = ell τ b / 8 in
       let M = masked E τ b N (take l C) in
       let tag = take (16 - (16 - t)) (drop (16 - t) whole) in
       let rest = take (length C - l) (drop l C) in
-      let a = from_blocks E D (end_as j E D tag) Δ rest k in
+      let a = from_blocks E D (end_as end E D tag) Δ rest (blocks_of end) in
       let n : length (take l C) ≡ l = length-take-le l C v.longer in
       let er : rest ≡ drop l C = to_end C l in
       let most : t ≤ 16 = rw v.tags v.at_most in
@@ -108,16 +110,16 @@ module _ (E D : List ℕ → List ℕ) (τ b : ℕ) (N Ta : List ℕ) where
       let here =
       after_turn a M d out w l (length rest - length tag) (length C - tag_bytes τ) r (v.head ∙ ap (λ (k : ℕ). M ++ drop k d) n) v.kept
       (rw size (rest_end C l (tag_bytes τ) h)) v.room tried lw in
-      let at-L : Ends j k (tag_bytes τ) (length C - tag_bytes τ - L) =
-      subst (λ (x : ℕ). Ends j k (tag_bytes τ) (length C - tag_bytes τ - x)) v.bits (subst (λ (x : ℕ). Ends j k x (length C - x - l)) v.tags ends) in
+      let at-L : Ends end (tag_bytes τ) (length C - tag_bytes τ - L) =
+      subst (λ (x : ℕ). Ends end (tag_bytes τ) (length C - tag_bytes τ - x)) v.bits (subst (λ (x : ℕ). Ends end x (length C - x - l)) v.tags ends) in
       let sized : length (T τ Ta (take L C)) ≡ tag_bytes τ = subst (λ (x : ℕ). length (T τ Ta (take x C)) ≡ tag_bytes τ) v.bits v.size in
-      let same : a ≡ from_blocks E D (end_as j E D (T τ Ta (take l C))) (Δ₀ E τ b N) (drop l C) k = rw (v.start, eT, er) refl in
-      let whole_is : after M a ≡ attempt E D τ b (form_of j) N Ta C =
-      ap (after M) same ∙ ap (λ (x : ℕ). after (masked E τ b N (take x C)) (from_blocks E D (end_as j E D (T τ Ta (take x C))) (Δ₀ E τ b N) (drop x C) k)) v.bits ∙ tail-form j k C at-L sized in
-      let form : open_form L (tag_bytes τ) (length C) ≡ form_of j =
+      let same : a ≡ from_blocks E D (end_as end E D (T τ Ta (take l C))) (Δ₀ E τ b N) (drop l C) (blocks_of end) = rw (v.start, eT, er) refl in
+      let whole_is : after M a ≡ attempt E D τ b (form_of end) N Ta C =
+      ap (after M) same ∙ ap (λ (x : ℕ). after (masked E τ b N (take x C)) (from_blocks E D (end_as end E D (T τ Ta (take x C))) (Δ₀ E τ b N) (drop x C) (blocks_of end))) v.bits ∙ tail-form end C at-L sized in
+      let form : open_form L (tag_bytes τ) (length C) ≡ form_of end =
       ap (open_form L (tag_bytes τ)) {x = length C} {y = length C - tag_bytes τ + tag_bytes τ} (omega arith) ∙ same-form L (tag_bytes τ) (length C - tag_bytes τ) v.at_most
       ∙ sym (ap₂ (λ (x y : ℕ). seal_form x y (length C - y)) v.bits v.tags) ∙ f in
-      formed (form_of j) C d _ (length C - tag_bytes τ) r form (subst (λ (x : Attempt). Tried x (length C - tag_bytes τ) r d (take l out ++ (w ++ drop (length out - l) (drop l out)))) whole_is here)
+      formed (form_of end) C d _ (length C - tag_bytes τ) r form (subst (λ (x : Attempt). Tried x (length C - tag_bytes τ) r d (take l out ++ (w ++ drop (length out - l) (drop l out)))) whole_is here)
 
   -- opening by what the attempt answered
   dec_is : (C : List ℕ) (r : Bool) → tag_bytes τ ≤ length C →

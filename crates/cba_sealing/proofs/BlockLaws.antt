@@ -1,17 +1,19 @@
 -- The full blocks, some at a time: what a loop over them leaves, in both directions.
 -- Assumes nothing.
 use mathlib.Core.Path.{◌≡◌, refl, sym, ap, ap₂, subst, ◌∙◌}
+use mathlib.Core.Bool.{Bool, true, false, cond}
 use mathlib.Core.List.{List, ◌++◌, append_assoc, append-nil}
 use Prim.Native.Nat.{ℕ, zero, suc, ◌+◌, ◌-◌, ◌*◌, ◌≤◌}
 use native.Mathlib.Nat.{le_antisymm}
 use native.Mathlib.Numerals.{unary_clauses}
 use native.Mathlib.Omega.{arith}
-use lib.ListN.{length, take, drop, replicate}
+use lib.ListN.{length, take, drop, replicate, length-append, length-take, length-drop}
 use lib.Seq.{drop_at, drop-drop}
 use Rattle.octets.specs.Strings.{over}
 use Rattle.octets.specs.Xor.{xors}
 use Rattle.octets.specs.Blocks.{block}
 use Rattle.octets.proofs.Parts.{to_end, then, size_of}
+use Rattle.aes_schedule.specs.declared.words.Words.{Words}
 use Rattle.aes_schedule.specs.Words.{block_of}
 use Rattle.cba_steps.specs.Halves.{halves_of}
 use Rattle.cba_mode.specs.Offsets.{F, offset}
@@ -78,8 +80,10 @@ module _ {E : List ℕ → List ℕ} {σ : ℕ → List ℕ} {M d : List ℕ} {k
         let out' = take (16 * i) out ++ (last ++ drop (length out - 16 * i) (drop (16 * i) out)) in
         i + n ≤ k → 16 * k ≤ length d →
         Passed E S (halves_of s.offset) M' (take (length out - 16 * i) (drop (16 * i) out)) n r last →
-        length last ≡ length (take (length out - 16 * i) (drop (16 * i) out)) → length out' ≡ length out → S ≡ σ (i + n) → Going E σ Δ M d k (i + n) r out'
-    goes_on n {r} {S} {last} h hd w lw lo eS =
+        length last ≡ length (take (length out - 16 * i) (drop (16 * i) out)) → S ≡ σ (i + n) → Going E σ Δ M d k (i + n) r out'
+    goes_on n {r} {S} {last} h hd w lw eS =
+        let lo : length (take (16 * i) out ++ (last ++ drop (length out - 16 * i) (drop (16 * i) out))) ≡ length out =
+        simp (length-append, length-take, length-drop) (omega (arith, simp (length-take, length-drop) at lw)) in
         let M' = take (length M - 16 * i) (drop (16 * i) M) in
         let eb = ap₂ (λ (δ m : List ℕ). cipher_blocks E δ m n) v.passed.offset-is (to_end M (16 * i)) in
         let all : 16 * i + 16 * n ≡ 16 * (i + n) = omega arith in
@@ -96,29 +100,49 @@ module _ {E : List ℕ → List ℕ} {σ : ℕ → List ℕ} {M d : List ℕ} {k
           long = lo ∙ v.long;
         }
 
+    -- i blocks by another count
+    pub goes_as : (j : ℕ) → i ≡ j → Going E σ Δ M d k j s out
+    goes_as j e = subst (λ (n : ℕ). Going E σ Δ M d k n s out) e v
+
     pub goes_end : k ≤ i → Passed E (σ k) Δ M d k s out
     goes_end h = subst (λ (j : ℕ). Passed E (σ j) Δ M d j s out) (le_antisymm v.within h) v.passed
 
--- ---- the sum, of what goes in and of what comes out
+-- ---- the sum, of what goes in where b is true, and else of what comes out
 
-pub sum-none : (M : List ℕ) → replicate 16 0 ≡ checksum M 0
+abbrev pub sum_of : (List ℕ → List ℕ) → Bool → List ℕ → List ℕ → ℕ → List ℕ
+sum_of E b Δ M n = checksum (cond b M (cipher_blocks E Δ M n)) n
+
+pub sum-none : (E : List ℕ → List ℕ) (b : Bool) (Δ M : List ℕ) → replicate 16 0 ≡ sum_of E b Δ M 0
 unfolding checksum
-sum-none M = refl
+sum-none E b Δ M = refl
 
-pub sum_in : {E : List ℕ → List ℕ} {Δ M d : List ℕ} {k i : ℕ} {s : Running} {out : List ℕ} → Going E (checksum M) Δ M d k i s out → (n : ℕ) →
-    summed (block_of s.sum) (take (length M - 16 * i) (drop (16 * i) M)) n ≡ checksum M (i + n)
-sum_in {E} {Δ} {M} {d} {k} {i} v n = ap₂ (λ (x m : List ℕ). summed x m n) v.passed.sum_is (to_end M (16 * i)) ∙ sums-more M i n
+-- of one block, and of two: t and u are those of the message
+module _ (E : List ℕ → List ℕ) (S Δ M : List ℕ) where
+  pub sum-one : (b : Bool) (x y : Words) {t : Words} → block_of x ≡ take 16 M → block_of y ≡ through E (F 2 2 Δ) (take 16 M) → t ≡ cond b x y →
+      xors S (block_of t) ≡ summed S (cond b M (cipher_blocks E Δ M 1)) 1
+  unfolding summed offset cipher_blocks
+  sum-one true x y ex ey et = ap (xors S) (ap block_of et ∙ ex)
+  sum-one false x y ex ey et = ap (λ (w : Words). xors S (block_of w)) et ∙ ap (λ (c : List ℕ). summed S c 1) ey
 
-abbrev pub sum_out : (List ℕ → List ℕ) → List ℕ → List ℕ → ℕ → List ℕ
-sum_out D Δ C n = checksum (cipher_blocks D Δ C n) n
+  pub sum-two : (b : Bool) (x y x' y' : Words) {t t' : Words} → block_of x ≡ take 16 M → block_of x' ≡ take 16 (drop 16 M) →
+      block_of y ≡ through E (F 2 2 Δ) (take 16 M) → block_of y' ≡ through E (F 2 2 (F 2 2 Δ)) (take 16 (drop 16 M)) →
+      t ≡ cond b x y → t' ≡ cond b x' y' → xors (xors S (block_of t)) (block_of t') ≡ summed S (cond b M (cipher_blocks E Δ M 2)) 2
+  unfolding summed offset cipher_blocks
+  sum-two true x y x' y' ex ex' ey ey' et et' = ap₂ (λ (c c' : List ℕ). xors (xors S c) c') (ap block_of et ∙ ex) (ap block_of et' ∙ ex')
+  sum-two false x y x' y' ex ex' ey ey' et et' =
+      ap₂ (λ (w w' : Words). xors (xors S (block_of w)) (block_of w')) et et'
+      ∙ ap (λ (c : List ℕ). summed S c 2) (ap₂ ◌++◌ ey ey')
 
-pub sum-out : {D : List ℕ → List ℕ} {Δ C d : List ℕ} {k i : ℕ} {s : Running} {out : List ℕ} → Going D (sum_out D Δ C) Δ C d k i s out → 16 * k ≤ length d → (n : ℕ) →
-    summed (block_of s.sum) (cipher_blocks D (halves_of s.offset) (take (length C - 16 * i) (drop (16 * i) C)) n) n ≡ sum_out D Δ C (i + n)
-sum-out {D} {Δ} {C} {d} {k} {i} {s} {out} v hd n =
-    let P = cipher_blocks D Δ C i in
-    let Q = cipher_blocks D (offset Δ i) (drop (16 * i) C) n in
+-- and of n blocks more
+pub sum-more : {E : List ℕ → List ℕ} (b : Bool) {Δ M d : List ℕ} {k i : ℕ} {s : Running} {out : List ℕ} → Going E (sum_of E b Δ M) Δ M d k i s out → 16 * k ≤ length d → (n : ℕ) →
+    (let M' = take (length M - 16 * i) (drop (16 * i) M) in
+    summed (block_of s.sum) (cond b M' (cipher_blocks E (halves_of s.offset) M' n)) n ≡ sum_of E b Δ M (i + n))
+sum-more true {Δ} {M} {d} {k} {i} v hd n = ap₂ (λ (x m : List ℕ). summed x m n) v.passed.sum_is (to_end M (16 * i)) ∙ sums-more M i n
+sum-more {E} false {Δ} {M} {d} {k} {i} {s} {out} v hd n =
+    let P = cipher_blocks E Δ M i in
+    let Q = cipher_blocks E (offset Δ i) (drop (16 * i) M) n in
     let size : length P ≡ 16 * i = size_of d P out (16 * i) v.passed.written v.long (omega (arith, v.within)) in
     ap₂ (λ (x m : List ℕ). summed x m n)
     (v.passed.sum_is ∙ sym (checksum-prefix P Q i (omega arith)))
-    (ap₂ (λ (δ m : List ℕ). cipher_blocks D δ m n) v.passed.offset-is (to_end C (16 * i)) ∙ sym (drop_at P Q (16 * i) size))
-    ∙ sums-more (P ++ Q) i n ∙ ap (λ (x : List ℕ). checksum x (i + n)) (blocks_more D Δ C i n)
+    (ap₂ (λ (δ m : List ℕ). cipher_blocks E δ m n) v.passed.offset-is (to_end M (16 * i)) ∙ sym (drop_at P Q (16 * i) size))
+    ∙ sums-more (P ++ Q) i n ∙ ap (λ (x : List ℕ). checksum x (i + n)) (blocks_more E Δ M i n)

@@ -1,14 +1,11 @@
 -- What sealing is made of: a tag of the front of a block, a string at the end of one.
 -- Assumes nothing.
-use mathlib.Core.Path.{◌≡◌, refl, sym, ap, ◌∙◌}
+use mathlib.Core.Path.{◌≡◌, refl, ap, ◌∙◌}
 use mathlib.Core.List.{List, ◌∷◌, ◌++◌}
 use Prim.Native.Nat.{ℕ, zero, suc, ◌-◌, ◌<◌, ◌≤◌}
 use native.Mathlib.Omega.{arith}
-use lib.ListN.{length, take, drop, get_or, replicate, length-take}
-use Rattle.octets.specs.Strings.{table}
-use Rattle.octets.proofs.Strings.{table-get_or}
+use lib.ListN.{length, take, drop, replicate, length-take}
 use Rattle.octets.proofs.Parts.{put_end}
-use Rattle.aes_schedule.specs.Words.{word_at}
 use Rattle.cba_mode.specs.Sets.{tag_bytes}
 use Rattle.cba_mode.specs.Offsets.{leading}
 
@@ -36,8 +33,3 @@ unfolding leading
 right_put s last h e =
     put_end (replicate 16 0) (16 - length s) s last (omega arith) e
     ∙ ap (λ (z : List ℕ). z ++ s) (take-replicate (16 - length s) 16 0 (omega arith))
-
--- three words of a string
-pub three-words : (s p q u : List ℕ) → length s ≡ 12 → p ≡ word_at s 0 → q ≡ word_at s 4 → u ≡ word_at s 8 → p ++ (q ++ u) ≡ s
-unfolding table
-three-words s p q u l ep eq eu = rw (ep, eq, eu) (ap (table (λ k. get_or s k 0)) (sym l) ∙ table-get_or s)

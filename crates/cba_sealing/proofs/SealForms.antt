@@ -1,7 +1,6 @@
 -- The forms of sealing, put together from C_0 and what follows it.
 -- Assumes nothing.
 use mathlib.Core.Path.{◌≡◌, refl, sym, ap, ap₂, subst, ◌∙◌}
-use mathlib.Core.Bool.{Bool, true, false}
 use mathlib.Core.List.{List, ◌++◌}
 use Prim.Native.Nat.{ℕ, suc, ◌+◌, ◌-◌, ◌*◌, ◌/◌, ◌<◌, ◌≤◌}
 use native.Mathlib.Omega.{arith}
@@ -16,6 +15,8 @@ use Rattle.cba_mode.specs.Forms.Form.{short}
 use Rattle.cba_mode.specs.Offsets.{F, offset, pad, leading}
 use Rattle.cba_mode.specs.Seal.{Δ₀, masked, short_tag, T, checksum, cipher_blocks, joined_tail, last_block, separate_tag, separate_tail, seal_as, seal_with}
 use Rattle.cba_mode.proofs.FormLaws.{seal_short}
+use Rattle.cba_steps.specs.declared.endings.Ending.{Ending}
+use Rattle.cba_steps.specs.declared.endings.Ending.TheVariants.{Joined, Separate}
 use Rattle.cba_steps.specs.Endings.{form_of, Ends}
 use Rattle.cba_sealing.specs.Calls.{tag_block, tail_as}
 use Rattle.cba_sealing.proofs.BeginLaws.{first_taken}
@@ -103,34 +104,34 @@ module _ (E : List ℕ → List ℕ) (τ b : ℕ) (N Ta : List ℕ) where
       ∙ ap (λ (k : ℕ). (masked E τ b N (take k m) ++ G (Δ₀ E τ b N) (T τ Ta (masked E τ b N (take k m))) (drop k m)) ++ drop (length m + tag_bytes τ) d) v.bits
 
   -- the tail by its ending is that of the form
-  tail-form : (j : Bool) (k : ℕ) (M : List ℕ) → (let L = ell τ b / 8 in let C = masked E τ b N (take L M) in
-      Ends j k (tag_bytes τ) (length M - L) → length (T τ Ta C) ≡ tag_bytes τ →
-      C ++ tail_as j E (Δ₀ E τ b N) (T τ Ta C) (drop L M) k ≡ seal_as E τ b (form_of j) N Ta M)
+  tail-form : (e : Ending) (M : List ℕ) → (let L = ell τ b / 8 in let C = masked E τ b N (take L M) in
+      Ends e (tag_bytes τ) (length M - L) → length (T τ Ta C) ≡ tag_bytes τ →
+      C ++ tail_as e E (Δ₀ E τ b N) (T τ Ta C) (drop L M) ≡ seal_as E τ b (form_of e) N Ta M)
   unfolding seal_as tail_as
-  tail-form true k M h s =
+  tail-form (Joined k) M h s =
       let L = ell τ b / 8 in
       let C = masked E τ b N (take L M) in
       ap (λ (i : ℕ). C ++ joined_tail E (Δ₀ E τ b N) (T τ Ta C) (drop L M) i) (joined-count k (length M - L) (tag_bytes τ) h.closes.0 h.closes.1)
-  tail-form false k M h s =
+  tail-form (Separate k) M h s =
       let L = ell τ b / 8 in
       let C = masked E τ b N (take L M) in
       ap (λ (i : ℕ). C ++ separate_tail E (8 * length (T τ Ta C)) (Δ₀ E τ b N) (T τ Ta C) (drop L M) i) (separate_count k (length M - L) h.within h.closes)
       ∙ ap (λ (x : List ℕ). C ++ x) (tag_alone E _ τ (Δ₀ E τ b N) (T τ Ta C) (drop L M) (full_blocks L (length M)) (omega (arith, s)))
 
-  pub long-turn : {M d out whole Δ : List ℕ} {l t k : ℕ} {j : Bool} (w : List ℕ) → Headed E τ b N Ta (masked E τ b N (take l M)) M d out whole Δ (length M + tag_bytes τ) l t →
-      seal_form l t (length M) ≡ form_of j → Ends j k t (length M - l) →
+  pub long-turn : {M d out whole Δ : List ℕ} {l t : ℕ} {end : Ending} (w : List ℕ) → Headed E τ b N Ta (masked E τ b N (take l M)) M d out whole Δ (length M + tag_bytes τ) l t →
+      seal_form l t (length M) ≡ form_of end → Ends end t (length M - l) →
       (let tag = take (16 - (16 - t)) (drop (16 - t) whole) in
       let rest = take (length M - l) (drop l M) in
-      w ≡ tail_as j E Δ tag rest k ++ drop (length rest + length tag) (take (length out - l) (drop l out))) →
+      w ≡ tail_as end E Δ tag rest ++ drop (length rest + length tag) (take (length out - l) (drop l out))) →
       length w ≡ length (take (length out - l) (drop l out)) →
       take l out ++ (w ++ drop (length out - l) (drop l out)) ≡ seal_with E τ b N Ta M ++ drop (length M + tag_bytes τ) d
-  long-turn {M} {d} {out} {whole} {Δ} {l} {t} {k} {j} w v f ends e le =
+  long-turn {M} {d} {out} {whole} {Δ} {l} {t} {end} w v f ends e le =
       let L = ell τ b / 8 in
       let tag = take (16 - (16 - t)) (drop (16 - t) whole) in
       let rest = take (length M - l) (drop l M) in
       let size : length tag ≡ tag_bytes τ = tag-size whole t v.whole-size (omega (arith, v.tags, v.at_most)) ∙ v.tags in
-      let at-L : Ends j k (tag_bytes τ) (length M - L) = subst (λ (x : ℕ). Ends j k x (length M - L)) v.tags (subst (λ (x : ℕ). Ends j k t (length M - x)) v.bits ends) in
+      let at-L : Ends end (tag_bytes τ) (length M - L) = subst (λ (x : ℕ). Ends end x (length M - L)) v.tags (subst (λ (x : ℕ). Ends end t (length M - x)) v.bits ends) in
       let sized : length (T τ Ta (masked E τ b N (take L M))) ≡ tag_bytes τ = subst (λ (x : ℕ). length (T τ Ta (masked E τ b N (take x M))) ≡ tag_bytes τ) v.bits v.size in
-      tail-turn (λ Δ Tag M'. tail_as j E Δ Tag M' k) w v
-      (e ∙ ap (λ (n : ℕ). tail_as j E Δ tag rest k ++ drop (length rest + n) (take (length out - l) (drop l out))) size) le
-      ∙ ap (λ (x : List ℕ). x ++ drop (length M + tag_bytes τ) d) (tail-form j k M at-L sized ∙ form-is (form_of j) M v.bits v.tags f)
+      tail-turn (λ Δ Tag M'. tail_as end E Δ Tag M') w v
+      (e ∙ ap (λ (n : ℕ). tail_as end E Δ tag rest ++ drop (length rest + n) (take (length out - l) (drop l out))) size) le
+      ∙ ap (λ (x : List ℕ). x ++ drop (length M + tag_bytes τ) d) (tail-form end M at-L sized ∙ form-is (form_of end) M v.bits v.tags f)

@@ -1,6 +1,6 @@
 -- What the functions of sealing require and leave. d is the output at entry and out at exit; sum is the sum whose first t bytes are T_A.
 -- Assumes nothing.
-use Rattle.std.specs.Prelude.{◌≡◌, Bool, true, false, List, ◌++◌, ℕ, zero, suc, ◌+◌, ◌*◌, ◌/◌, ◌≤◌, length, take, drop}
+use Rattle.std.specs.Prelude.{◌≡◌, Bool, cond, List, ◌++◌, ℕ, zero, suc, ◌+◌, ◌*◌, ◌/◌, ◌≤◌, length, take, drop}
 use Rattle.octets.specs.Xor.{xors}
 use Rattle.octets.specs.Blocks.{block}
 use Rattle.fips197.specs.Cipher.{cipher}
@@ -11,6 +11,7 @@ use Rattle.cba_mode.specs.Offsets.{F, offset, pad, leading}
 use Rattle.cba_mode.specs.Seal.{checksum, cipher_blocks, Δ₀, masked, joined_block, joined_end, joined_tail, last_block, last_offset, separate_tail, seal_with}
 use Rattle.cba_steps.specs.declared.parameters.Parameters.{Parameters}
 use Rattle.cba_steps.specs.declared.endings.Ending.{Ending}
+use Rattle.cba_steps.specs.declared.endings.Ending.TheVariants.{Joined, Separate}
 use Rattle.cba_steps.specs.declared.offsets.Halves.{Halves}
 use Rattle.cba_steps.specs.Halves.{halves_of}
 use Rattle.cba_sealing.specs.declared.begin.Begun.{Begun}
@@ -69,13 +70,17 @@ pub record Passed (E : List ℕ → List ℕ) (σ Δ M d : List ℕ) (k : ℕ) (
   pub sum_is : block_of r.sum ≡ σ
   pub written : out ≡ cipher_blocks E Δ M k ++ drop (16 * k) d
 
--- C_1 .. C_k
-abbrev pub SealedBlocks : List ℕ → Halves → List ℕ → List ℕ → ℕ → Running → List ℕ → Type 0
-SealedBlocks key start M d k r out = Passed (cipher key) (checksum M k) (halves_of start) M d k r out
+-- the first k blocks of M through E, of which b says whether they are the message's: if not, those that come out are
+abbrev pub Blocks : (List ℕ → List ℕ) → Bool → Halves → List ℕ → List ℕ → ℕ → Running → List ℕ → Type 0
+Blocks E b start M d k r out =
+    let Δ = halves_of start in
+    Passed E (checksum (cond b M (cipher_blocks E Δ M k)) k) Δ M d k r out
 
 -- the first n blocks of M, after those that left s
-abbrev pub SealedMore : List ℕ → Running → List ℕ → List ℕ → ℕ → Running → List ℕ → Type 0
-SealedMore key s M d n r out = Passed (cipher key) (summed (block_of s.sum) M n) (halves_of s.offset) M d n r out
+abbrev pub More : (List ℕ → List ℕ) → Bool → Running → List ℕ → List ℕ → ℕ → Running → List ℕ → Type 0
+More E b s M d n r out =
+    let Δ = halves_of s.offset in
+    Passed E (summed (block_of s.sum) (cond b M (cipher_blocks E Δ M n)) n) Δ M d n r out
 
 -- C_{m−1} of the joined form
 abbrev pub JoinedBlock : List ℕ → Halves → List ℕ → List ℕ → List ℕ → List ℕ → List ℕ → Type 0
@@ -101,13 +106,13 @@ SeparateEnd key Tag s last d out =
     out ≡ (last_block (cipher key) (halves_of s.offset) Tag last ++ take (length Tag) (tag_block (cipher key) (halves_of s.offset) Tag (block_of s.sum) last))
     ++ drop (length last + length Tag) d
 
--- what follows C_0, with k full blocks before its end
-unfoldable pub tail_as : Bool → (List ℕ → List ℕ) → List ℕ → List ℕ → List ℕ → ℕ → List ℕ
-tail_as true E Δ Tag M' k = joined_tail E Δ Tag M' k
-tail_as false E Δ Tag M' k = separate_tail E (8 * length Tag) Δ Tag M' k
+-- what follows C_0
+unfoldable pub tail_as : Ending → (List ℕ → List ℕ) → List ℕ → List ℕ → List ℕ → List ℕ
+tail_as (Joined k) E Δ Tag M' = joined_tail E Δ Tag M' k
+tail_as (Separate k) E Δ Tag M' = separate_tail E (8 * length Tag) Δ Tag M' k
 
 abbrev pub Tail : List ℕ → Ending → List ℕ → Halves → List ℕ → List ℕ → List ℕ → Type 0
-Tail key e Tag h M' d out = out ≡ tail_as e.joined (cipher key) (halves_of h) Tag M' e.blocks ++ drop (length M' + length Tag) d
+Tail key e Tag h M' d out = out ≡ tail_as e (cipher key) (halves_of h) Tag M' ++ drop (length M' + length Tag) d
 
 -- ---- the whole
 

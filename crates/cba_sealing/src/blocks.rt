@@ -1,14 +1,14 @@
-// The full blocks of a message, two at a time: E of two blocks takes less than twice the time of one.
+// The full blocks of a message or a ciphertext, two at a time: the block function of two blocks takes
+// less than twice the time of one. They go as words, from the text to the output.
 ghost use Rattle.std.specs.Prelude.{◌≡◌, ◌++◌, ◌*◌, ◌≤◌, length};
 ghost use Rattle.octets.specs.Strings.{over};
-ghost use Rattle.fips197.specs.Cipher.{cipher};
 ghost use Rattle.aes_schedule.specs.Words.{block_of};
-ghost use Rattle.aes.specs.Context.{Encrypts};
 ghost use Rattle.cba_steps.specs.Halves.{halves_of};
-ghost use Rattle.cba_sealing.specs.Calls.{through, Through, SealedMore, SealedBlocks};
+ghost use Rattle.cba_sealing.specs.Calls.{through, Through, More, Blocks};
 
-use aes::{Pair, xor_pair};
-use aes_schedule::{Words, read, words_at, write, xor_words};
+use crate::direction::Direction;
+use aes::Pair;
+use aes_schedule::{Words, read, words_at, write};
 use cba_steps::{Halves, doubled, words};
 
 // What goes from block to block: the offset and the checksum.
@@ -18,102 +18,97 @@ pub struct Running {
     pub sum: Words,
 }
 
-// C = E(M ⊕ Δ) ⊕ Δ.
-fn sealed_block(key: &[u8], ctx: &aes::Context, m: Words, h: Halves) -> Words
-    requires { Encrypts key.now ctx.now }
-    ensures { block_of result ≡ through (cipher key.now) (halves_of h) (block_of m) }
+// E(M ⊕ Δ) ⊕ Δ, or D in the place of E.
+fn masked<D: Direction>(d: &D, m: Words, h: Halves) -> Words
+    ensures { block_of result ≡ through (D.function d.now) (halves_of h) (block_of m) }
 {
     let offset = words(h);
-    let e = aes::encrypt(key, ctx, write(xor_words(m, offset)));
-    xor_words(read(e), offset)
+    d.block(m ^ offset) ^ offset
 }
 
 // The same of two blocks, each with its own offset.
-fn sealed_pair(key: &[u8], ctx: &aes::Context, m: Pair, a: Halves, b: Halves) -> Pair
-    requires { Encrypts key.now ctx.now }
-    ensures { Through (cipher key.now) (halves_of a) (halves_of b) m result }
+fn masked_pair<D: Direction>(d: &D, m: Pair, a: Halves, b: Halves) -> Pair
+    ensures { Through (D.function d.now) (halves_of a) (halves_of b) m result }
 {
     let offsets = Pair {
         x: words(a),
         y: words(b),
     };
-    xor_pair(aes::encrypt_pair(key, ctx, xor_pair(m, offsets)), offsets)
+    d.pair(m ^ offsets) ^ offsets
 }
 
 // Writes two blocks over the first bytes of out.
-pub fn put_pair(out: &mut [u8], p: Pair)
+fn put_pair(out: &mut [u8], p: Pair)
     requires { 32 ≤ length out.old }
     ensures { out.new ≡ over (block_of p.x ++ block_of p.y) out.old }
 {
-    let x = p.x;
-    let y = p.y;
-    octets::put(out, &write(x));
-    octets::put(&mut out[16..], &write(y));
+    octets::put(out, &write(p.x));
+    octets::put(&mut out[16..], &write(p.y));
 }
 
-// The first block of a message sealed over the first bytes of out.
-fn seal_one(key: &[u8], ctx: &aes::Context, message: &[u8], s: Running, out: &mut [u8]) -> Running
-    requires encrypts { Encrypts key.now ctx.now }
-    requires in_bounds { 16 ≤ length message.now }
-    requires in_bounds_2 { 16 ≤ length out.old }
-    ensures { SealedMore key.now s message.now out.old 1 result out.new }
+// The first block of a text through the block function, over the first bytes of out.
+fn one_block<D: Direction>(d: &D, s: Running, text: &[u8], out: &mut [u8]) -> Running
+    requires text_holds_a_block { 16 ≤ length text.now }
+    requires out_holds_a_block { 16 ≤ length out.old }
+    ensures { More (D.function d.now) D.seals s text.now out.old 1 result out.new }
 {
-    let h = s.offset;
-    let sum = s.sum;
-    let a = doubled(h);
-    let m = words_at(message, 0);
-    octets::put(out, &write(sealed_block(key, ctx, m, a)));
+    let offset = doubled(s.offset);
+    let before = words_at(text, 0);
+    let after = masked(d, before, offset);
+    octets::put(out, &write(after));
     Running {
-        offset: a,
-        sum: xor_words(sum, m),
+        offset,
+        sum: s.sum ^ D::message(before, after),
     }
 }
 
 // The first two blocks.
-fn seal_two(key: &[u8], ctx: &aes::Context, message: &[u8], s: Running, out: &mut [u8]) -> Running
-    requires encrypts { Encrypts key.now ctx.now }
-    requires in_bounds { 32 ≤ length message.now }
-    requires in_bounds_2 { 32 ≤ length out.old }
-    ensures { SealedMore key.now s message.now out.old 2 result out.new }
+fn two_blocks<D: Direction>(d: &D, s: Running, text: &[u8], out: &mut [u8]) -> Running
+    requires text_holds_two_blocks { 32 ≤ length text.now }
+    requires out_holds_two_blocks { 32 ≤ length out.old }
+    ensures { More (D.function d.now) D.seals s text.now out.old 2 result out.new }
 {
-    let h = s.offset;
-    let sum = s.sum;
-    let a = doubled(h);
+    let a = doubled(s.offset);
     let b = doubled(a);
-    let m = words_at(message, 0);
-    let n = words_at(message, 16);
-    put_pair(out, sealed_pair(key, ctx, Pair { x: m, y: n }, a, b));
+    let before = Pair {
+        x: words_at(text, 0),
+        y: words_at(text, 16),
+    };
+    let after = masked_pair(d, before, a, b);
+    put_pair(out, after);
+    let sum = s.sum ^ D::message(before.x, after.x);
     Running {
         offset: b,
-        sum: xor_words(sum, xor_words(m, n)),
+        sum: sum ^ D::message(before.y, after.y),
     }
 }
 
-// The first k blocks of a message sealed over the first bytes of out, from the offset before them.
-pub fn full_blocks(
-    key: &[u8],
-    ctx: &aes::Context,
-    message: &[u8],
-    k: usize,
+// The first k blocks of a text through the block function, over the first bytes of out, from the
+// offset before them. A function of its own in the machine code too: inside a larger one the rounds
+// may find too few registers.
+#[inline(never)]
+pub fn full_blocks<D: Direction>(
+    d: &D,
     start: Halves,
+    text: &[u8],
+    k: usize,
     out: &mut [u8],
 ) -> Running
-    requires encrypts { Encrypts key.now ctx.now }
-    requires k_in_bounds { 16 * k ≤ length message.now }
-    requires k_in_bounds_2 { 16 * k ≤ length out.old }
-    ensures { SealedBlocks key.now start message.now out.old k result out.new }
+    requires text_holds_k_blocks { 16 * k ≤ length text.now }
+    requires out_holds_k_blocks { 16 * k ≤ length out.old }
+    ensures { Blocks (D.function d.now) D.seals start text.now out.old k result out.new }
 {
     let mut s = Running {
         offset: start,
-        sum: read([0u8; 16]),
+        sum: read([0; 16]),
     };
-    let mut i = 0;
-    while i + 1 < k {
-        s = seal_two(key, ctx, &message[16 * i..], s, &mut out[16 * i..]);
-        i += 2;
+    for i in 0..k / 2 {
+        let done = 2 * i;
+        s = two_blocks(d, s, &text[16 * done..], &mut out[16 * done..]);
     }
-    if i < k {
-        return seal_one(key, ctx, &message[16 * i..], s, &mut out[16 * i..]);
+    if k % 2 == 1 {
+        let done = k - 1;
+        return one_block(d, s, &text[16 * done..], &mut out[16 * done..]);
     }
     s
 }

@@ -2,7 +2,7 @@
 ghost use Rattle.std.specs.Prelude.{◌≡◌, ◌+◌, ◌≤◌, ◌<◌, length};
 ghost use Rattle.octets.specs.Xor.{xors};
 ghost use Rattle.fips197.specs.Cipher.{cipher};
-ghost use Rattle.aes.specs.Context.{Encrypts};
+ghost use Rattle.cba_mode.specs.Sets.{tag_bytes};
 ghost use Rattle.cba_mode.specs.Offsets.{F, pad};
 ghost use Rattle.cba_steps.specs.Endings.{Ends};
 ghost use Rattle.cba_steps.specs.Halves.{halves_of};
@@ -11,101 +11,66 @@ ghost use Rattle.cba_sealing.specs.Calls.{Seals, first_bytes, Tail, Enc};
 use crate::begin::{cover, full_tag};
 use crate::blocks::full_blocks;
 use crate::joined::joined_end;
+use crate::record::Record;
 use crate::separate::separate_end;
+use aes::Encryption;
 use cba_steps::{Ending, Halves, Parameters, ending_of, pad, step_block};
 
 // The block whose first t bytes are C_1 of the short form.
-pub fn short_tag(
-    key: &[u8],
-    ctx: &aes::Context,
-    data_tag: [u8; 16],
-    offset: Halves,
-    c: &[u8],
-) -> [u8; 16]
-    requires { Encrypts key.now ctx.now }
-    ensures { result ≡ cipher key.now (xors (xors data_tag (pad c.now)) (F 3 3 (halves_of offset))) }
+pub fn short_tag(e: &Encryption, data_tag: [u8; 16], offset: Halves, c: &[u8]) -> [u8; 16]
+    ensures { result ≡ cipher e.now (xors (xors data_tag (pad c.now)) (F 3 3 (halves_of offset))) }
 {
     let x = octets::xor_block(data_tag, pad(c));
-    aes::encrypt(key, ctx, octets::xor_block(x, step_block(3, 3, offset)))
+    e.encrypt(octets::xor_block(x, step_block(3, 3, offset)))
 }
 
 // At most ℓ bits.
-fn seal_short(
-    key: &[u8],
-    ctx: &aes::Context,
-    p: Parameters,
-    nonce: &[u8],
-    sum: [u8; 16],
-    message: &[u8],
-    out: &mut [u8],
-)
-    requires encrypts { Encrypts key.now ctx.now }
-    requires seals { Seals p nonce.now message.now out.old }
-    requires message_len_bound { length message.now ≤ first_bytes p }
-    ensures { Enc key.now p nonce.now sum message.now out.old out.new }
+fn seal_short(e: &Encryption, r: &Record, message: &[u8], out: &mut [u8])
+    requires room { length message.now + tag_bytes r.now.p.tau ≤ length out.old }
+    requires no_longer_than_first { length message.now ≤ first_bytes r.now.p }
+    ensures { Enc e.now r.now.p r.now.nonce.now r.now.sum message.now out.old out.new }
 {
-    let b = cover(key, ctx, p, nonce, sum, message, out);
-    let data = b.data;
-    let offset = b.offset;
+    let b = cover(e, r, message, out);
     let n = message.len();
-    let e = short_tag(key, ctx, data, offset, &out[..n]);
-    octets::put(&mut out[n..], &e[..p.tag_bytes()]);
+    let block = short_tag(e, b.data, b.offset, &out[..n]);
+    octets::put(&mut out[n..], &block[..r.p.tag_bytes()]);
 }
 
 // C_1 C_2 .. over the first bytes of out, of what follows M_0.
-fn tail(
-    key: &[u8],
-    ctx: &aes::Context,
-    e: Ending,
-    tag: &[u8],
-    offset: Halves,
-    message: &[u8],
-    out: &mut [u8],
-)
-    requires encrypts { Encrypts key.now ctx.now }
-    requires ends { Ends e.joined e.blocks (length tag.now) (length message.now) }
+// The ends take the tag, what runs from block to block, the rest and the output one by one: a struct
+// of them is no plainer, since it would be made for one call and taken apart in it. Opening has a
+// function of this shape: one for both would take both ends as closures, which is no plainer.
+fn tail(e: &Encryption, end: Ending, tag: &[u8], offset: Halves, message: &[u8], out: &mut [u8])
+    requires ends { Ends end (length tag.now) (length message.now) }
     requires tag_len_bound { length tag.now ≤ 16 }
     requires tag_in_bounds { length message.now + length tag.now ≤ length out.old }
-    ensures { Tail key.now e tag.now offset message.now out.old out.new }
+    ensures { Tail e.now end tag.now offset message.now out.old out.new }
 {
-    let k = e.blocks;
-    let s = full_blocks(key, ctx, message, k, offset, out);
+    let k = end.blocks();
+    let s = full_blocks(e, offset, message, k, out);
     let rest = &message[16 * k..];
-    if e.joined {
-        joined_end(key, ctx, tag, s, rest, &mut out[16 * k..]);
-        return;
+    match end {
+        Ending::Joined { .. } => joined_end(e, tag, s, rest, &mut out[16 * k..]),
+        Ending::Separate { .. } => separate_end(e, tag, s, rest, &mut out[16 * k..]),
     }
-    separate_end(key, ctx, tag, s, rest, &mut out[16 * k..]);
 }
 
 // More than ℓ bits, in the form that the length takes.
-fn seal_long(
-    key: &[u8],
-    ctx: &aes::Context,
-    p: Parameters,
-    nonce: &[u8],
-    sum: [u8; 16],
-    message: &[u8],
-    out: &mut [u8],
-)
-    requires encrypts { Encrypts key.now ctx.now }
-    requires seals { Seals p nonce.now message.now out.old }
-    requires p_in_bounds { first_bytes p < length message.now }
-    ensures { Enc key.now p nonce.now sum message.now out.old out.new }
+fn seal_long(e: &Encryption, r: &Record, message: &[u8], out: &mut [u8])
+    requires room { length message.now + tag_bytes r.now.p.tau ≤ length out.old }
+    requires longer_than_first { first_bytes r.now.p < length message.now }
+    ensures { Enc e.now r.now.p r.now.nonce.now r.now.sum message.now out.old out.new }
 {
-    let l = p.first_bytes();
-    let t = p.tag_bytes();
-    let e = ending_of(l, t, message.len());
-    let b = cover(key, ctx, p, nonce, sum, &message[..l], out);
-    let data = b.data;
-    let offset = b.offset;
-    let whole = full_tag(data, &out[..l]);
+    let l = r.p.first_bytes();
+    let t = r.p.tag_bytes();
+    let end = ending_of(l, t, message.len());
+    let b = cover(e, r, &message[..l], out);
+    let whole = full_tag(b.data, &out[..l]);
     tail(
-        key,
-        ctx,
         e,
+        end,
         &whole[16 - t..],
-        offset,
+        b.offset,
         &message[l..],
         &mut out[l..],
     );
@@ -113,21 +78,20 @@ fn seal_long(
 
 // ENC over the first bytes of out, given T_A: the first t bytes of the sum.
 pub fn enc(
-    key: &[u8],
-    ctx: &aes::Context,
+    e: &Encryption,
     p: Parameters,
     nonce: &[u8],
     sum: [u8; 16],
     message: &[u8],
     out: &mut [u8],
 )
-    requires encrypts { Encrypts key.now ctx.now }
     requires seals { Seals p nonce.now message.now out.old }
-    ensures { Enc key.now p nonce.now sum message.now out.old out.new }
+    ensures { Enc e.now p nonce.now sum message.now out.old out.new }
 {
+    let r = Record { p, nonce, sum };
     if message.len() <= p.first_bytes() {
-        seal_short(key, ctx, p, nonce, sum, message, out);
+        seal_short(e, &r, message, out);
         return;
     }
-    seal_long(key, ctx, p, nonce, sum, message, out);
+    seal_long(e, &r, message, out);
 }

@@ -1,73 +1,54 @@
 // The joined form's end: the last block and the tag share one block, and the sum follows it.
 ghost use Rattle.std.specs.Prelude.{◌≡◌, ◌+◌, ◌≤◌, length};
 ghost use Rattle.fips197.specs.Cipher.{cipher};
-ghost use Rattle.aes.specs.Context.{Encrypts};
 ghost use Rattle.cba_mode.specs.Seal.{joined_last};
 ghost use Rattle.cba_steps.specs.Halves.{halves_of};
 ghost use Rattle.cba_sealing.specs.Calls.{JoinedBlock, JoinedEnd};
 
 use crate::blocks::Running;
 use crate::pieces::mask;
+use aes::Encryption;
 use aes_schedule::write;
 use cba_steps::{Halves, doubled, pad, step_block, whole};
 
 // C_{m-1} over the first bytes of out, from M_{m-1}, M_m and T.
 fn joined_block(
-    key: &[u8],
-    ctx: &aes::Context,
+    e: &Encryption,
     tag: &[u8],
     offset: Halves,
     m: [u8; 16],
     last: &[u8],
     out: &mut [u8],
 )
-    requires encrypts { Encrypts key.now ctx.now }
     requires tag_len_bound { length last.now + length tag.now ≤ 16 }
     requires tag_in_bounds { length last.now + length tag.now ≤ length out.old }
-    ensures { JoinedBlock key.now offset tag.now m last.now out.old out.new }
+    ensures { JoinedBlock e.now offset tag.now m last.now out.old out.new }
 {
-    let e = aes::encrypt(key, ctx, octets::xor_block(m, whole(offset)));
+    let block = e.encrypt(octets::xor_block(m, whole(offset)));
     let n = last.len();
-    mask(e, 0, last, out);
-    mask(e, n, tag, &mut out[n..]);
+    mask(block, 0, last, out);
+    mask(block, n, tag, &mut out[n..]);
 }
 
 // C_m, from the sum and C_{m-1}.
-fn joined_last(key: &[u8], ctx: &aes::Context, offset: Halves, sum: [u8; 16], c: &[u8]) -> [u8; 16]
-    requires { Encrypts key.now ctx.now }
-    ensures { result ≡ joined_last (cipher key.now) (halves_of offset) sum c.now }
+fn joined_last(e: &Encryption, offset: Halves, sum: [u8; 16], c: &[u8]) -> [u8; 16]
+    ensures { result ≡ joined_last (cipher e.now) (halves_of offset) sum c.now }
 {
     let x = octets::xor_block(pad(c), step_block(3, 3, offset));
-    octets::xor_block(sum, aes::encrypt(key, ctx, x))
+    octets::xor_block(sum, e.encrypt(x))
 }
 
 // C_{m-1} C_m over the first bytes of out, from M_{m-1} M_m after the blocks before them.
-pub fn joined_end(
-    key: &[u8],
-    ctx: &aes::Context,
-    tag: &[u8],
-    s: Running,
-    rest: &[u8],
-    out: &mut [u8],
-)
-    requires encrypts { Encrypts key.now ctx.now }
-    requires in_bounds { 16 ≤ length rest.now }
+pub fn joined_end(e: &Encryption, tag: &[u8], s: Running, rest: &[u8], out: &mut [u8])
+    requires rest_holds_a_block { 16 ≤ length rest.now }
     requires tag_len_bound { length rest.now + length tag.now ≤ 32 }
     requires tag_in_bounds { length rest.now + length tag.now ≤ length out.old }
-    ensures { JoinedEnd key.now tag.now s rest.now out.old out.new }
+    ensures { JoinedEnd e.now tag.now s rest.now out.old out.new }
 {
-    let before = s.offset;
-    let offset = doubled(before);
+    let offset = doubled(s.offset);
     let m = octets::first_block(rest);
-    joined_block(key, ctx, tag, offset, m, &rest[16..], out);
-    let sum = s.sum;
+    joined_block(e, tag, offset, m, &rest[16..], out);
     let n = rest.len() - 16 + tag.len();
-    let c = joined_last(
-        key,
-        ctx,
-        offset,
-        octets::xor_block(write(sum), m),
-        &out[..n],
-    );
+    let c = joined_last(e, offset, octets::xor_block(write(s.sum), m), &out[..n]);
     octets::put(&mut out[n..], &c);
 }

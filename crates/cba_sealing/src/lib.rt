@@ -3,13 +3,17 @@
 
 mod begin;
 mod blocks;
+mod direction;
 mod forms;
 mod joined;
 mod pieces;
+mod record;
 mod separate;
 
 pub use begin::{Begun, cover, full_tag};
-pub use blocks::{Running, put_pair};
+pub use blocks::{Running, full_blocks};
+pub use direction::Direction;
 pub use forms::{enc, short_tag};
 pub use pieces::mask;
+pub use record::Record;
 pub use separate::{last_block, tag_block};

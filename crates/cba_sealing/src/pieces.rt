@@ -11,10 +11,8 @@ pub fn nonce_block(p: Parameters, nonce: &[u8]) -> [u8; 16]
     requires { length nonce.now ≡ 12 }
     ensures { result ≡ 0 ∷ 0 ∷ p.tau ∷ p.capacity ∷ nonce.now }
 {
-    let tau = p.tau;
-    let b = p.capacity;
     write(Words {
-        a: join(0, 0, tau, b),
+        a: join(0, 0, p.tau, p.capacity),
         b: word_at(nonce, 0),
         c: word_at(nonce, 4),
         d: word_at(nonce, 8),
@@ -27,10 +25,8 @@ pub fn mask(block: [u8; 16], at: usize, s: &[u8], out: &mut [u8])
     requires s_in_bounds { length s.now ≤ length out.old }
     ensures { out.new ≡ masked_by at block s.now ++ drop (length s.now) out.old }
 {
-    let mut i = 0;
-    while i < s.len() {
+    for i in 0..s.len() {
         out[i] = s[i] ^ block[at + i];
-        i += 1;
     }
 }
 

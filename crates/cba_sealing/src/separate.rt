@@ -1,33 +1,25 @@
 // The separate form's end: a last block of its own length, and the tag after it.
 ghost use Rattle.std.specs.Prelude.{◌≡◌, ◌+◌, ◌≤◌, length};
 ghost use Rattle.fips197.specs.Cipher.{cipher};
-ghost use Rattle.aes.specs.Context.{Encrypts};
 ghost use Rattle.cba_mode.specs.Seal.{last_offset};
 ghost use Rattle.cba_steps.specs.Halves.{halves_of};
 ghost use Rattle.cba_sealing.specs.Calls.{LastBlock, tag_block, SeparateEnd};
 
 use crate::blocks::Running;
 use crate::pieces::{mask, right_aligned};
+use aes::Encryption;
 use aes_schedule::write;
 use cba_steps::{Halves, pad, step, step_block};
 
 // C_m over the first bytes of out, from M_m; or M_m, from C_m.
-pub fn last_block(
-    key: &[u8],
-    ctx: &aes::Context,
-    tag: &[u8],
-    offset: Halves,
-    last: &[u8],
-    out: &mut [u8],
-)
-    requires encrypts { Encrypts key.now ctx.now }
+pub fn last_block(e: &Encryption, tag: &[u8], offset: Halves, last: &[u8], out: &mut [u8])
     requires tag_len_bound { length tag.now ≤ 16 }
     requires last_len_bound { length last.now ≤ 16 }
     requires last_in_bounds { length last.now ≤ length out.old }
-    ensures { LastBlock key.now offset tag.now last.now out.old out.new }
+    ensures { LastBlock e.now offset tag.now last.now out.old out.new }
 {
     let x = octets::xor_block(right_aligned(tag), step_block(2, 4, offset));
-    mask(aes::encrypt(key, ctx, x), 0, last, out);
+    mask(e.encrypt(x), 0, last, out);
 }
 
 // The offset of the tag, after a last block of n bytes.
@@ -42,45 +34,23 @@ fn last_offset(offset: Halves, n: usize) -> [u8; 16]
 }
 
 // The block whose first t bytes are C_{m+1}.
-pub fn tag_block(
-    key: &[u8],
-    ctx: &aes::Context,
-    tag: &[u8],
-    offset: Halves,
-    sum: [u8; 16],
-    last: &[u8],
-) -> [u8; 16]
-    requires encrypts { Encrypts key.now ctx.now }
+pub fn tag_block(e: &Encryption, tag: &[u8], offset: Halves, sum: [u8; 16], last: &[u8]) -> [u8; 16]
     requires tag_len_bound { length tag.now ≤ 16 }
-    ensures { result ≡ tag_block (cipher key.now) (halves_of offset) tag.now sum last.now }
+    ensures { result ≡ tag_block (cipher e.now) (halves_of offset) tag.now sum last.now }
 {
     let s = octets::xor_block(sum, pad(last));
     let x = octets::xor_block(s, right_aligned(tag));
-    aes::encrypt(
-        key,
-        ctx,
-        octets::xor_block(x, last_offset(offset, last.len())),
-    )
+    e.encrypt(octets::xor_block(x, last_offset(offset, last.len())))
 }
 
 // C_m C_{m+1} over the first bytes of out, after the full blocks.
-pub fn separate_end(
-    key: &[u8],
-    ctx: &aes::Context,
-    tag: &[u8],
-    s: Running,
-    last: &[u8],
-    out: &mut [u8],
-)
-    requires encrypts { Encrypts key.now ctx.now }
+pub fn separate_end(e: &Encryption, tag: &[u8], s: Running, last: &[u8], out: &mut [u8])
     requires tag_len_bound { length tag.now ≤ 16 }
     requires last_len_bound { length last.now ≤ 16 }
     requires tag_in_bounds { length last.now + length tag.now ≤ length out.old }
-    ensures { SeparateEnd key.now tag.now s last.now out.old out.new }
+    ensures { SeparateEnd e.now tag.now s last.now out.old out.new }
 {
-    let offset = s.offset;
-    let sum = s.sum;
-    last_block(key, ctx, tag, offset, last, out);
-    let e = tag_block(key, ctx, tag, offset, write(sum), last);
-    octets::put(&mut out[last.len()..], &e[..tag.len()]);
+    last_block(e, tag, s.offset, last, out);
+    let block = tag_block(e, tag, s.offset, write(s.sum), last);
+    octets::put(&mut out[last.len()..], &block[..tag.len()]);
 }

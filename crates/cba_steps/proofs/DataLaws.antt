@@ -5,7 +5,8 @@ use mathlib.Core.List.{List}
 use Prim.Native.Nat.{ℕ, zero, suc, ◌-◌, ◌*◌, ◌/◌, ◌<◌, ◌≤◌}
 use native.Mathlib.Nat.{mul-suc, add_comm}
 use native.Mathlib.Omega.{arith}
-use borrow.Author.Tests.{eq-eqb, ne_eqb}
+use mathlib.Core.Bool.{true, false}
+use lib.Dec.{eqb}
 use lib.ListN.{length, take, drop, length-drop}
 use lib.Seq.{take_all, drop-drop}
 use Rattle.octets.specs.Xor.{xors}
@@ -44,13 +45,13 @@ module _ (E : List ℕ → List ℕ) where
       (ap (λ (n : ℕ). drop n A) (mul-suc 16 m ∙ add_comm (16 * m) 16) ∙ sym (drop-drop (16 * m) 16 A)))
 
   -- a rest that is empty, and one that is not
-  pub with_rest-none : (s Δ A : List ℕ) → length A ≡ 0 → s ≡ with_rest E s Δ A
+  pub with_rest-none : (s Δ A : List ℕ) → eqb (length A) 0 ≡ true → s ≡ with_rest E s Δ A
   unfolding with_rest
-  with_rest-none s Δ A h = rw (eq-eqb (length A) 0 h)
+  with_rest-none s Δ A h = rw h
 
-  pub with_rest-some : (s Δ A : List ℕ) → (length A ≡ 0 → ⊥) → xors s (E (xors (pad A) (F 3 3 Δ))) ≡ with_rest E s Δ A
+  pub with_rest-some : (s Δ A : List ℕ) → eqb (length A) 0 ≡ false → xors s (E (xors (pad A) (F 3 3 Δ))) ≡ with_rest E s Δ A
   unfolding with_rest
-  with_rest-some s Δ A h = rw (ne_eqb (length A) 0 h)
+  with_rest-some s Δ A h = rw h
 
   -- one call of the walk
   pub walk_turn : (s Δ A : List ℕ) (more next first r : List ℕ) → 16 ≤ length A → next ≡ F 2 2 Δ → first ≡ take 16 A →
@@ -60,5 +61,5 @@ module _ (E : List ℕ → List ℕ) where
       ∙ ap₂ (λ (x y : List ℕ). data_sum E x y (drop 16 A)) (m ∙ ap₂ (λ (x y : List ℕ). xors s (E (xors x y))) f n) n
       ∙ data_sum-step s Δ A h
 
-  pub rest-turn : (s Δ A : List ℕ) (p d r : List ℕ) → (length A ≡ 0 → ⊥) → p ≡ pad A → d ≡ F 3 3 Δ → r ≡ xors s (E (xors p d)) → r ≡ with_rest E s Δ A
+  pub rest-turn : (s Δ A : List ℕ) (p d r : List ℕ) → eqb (length A) 0 ≡ false → p ≡ pad A → d ≡ F 3 3 Δ → r ≡ xors s (E (xors p d)) → r ≡ with_rest E s Δ A
   rest-turn s Δ A p d r h a b e = e ∙ ap₂ (λ (x y : List ℕ). xors s (E (xors x y))) a b ∙ with_rest-some s Δ A h

@@ -6,14 +6,20 @@ use Prim.Native.Nat.{ℕ, ◌+◌, ◌*◌, ◌/◌, ◌%◌, ◌^◌, ◌<◌}
 use native.Mathlib.Nat.{div-div-eq-div-mul}
 use native.Mathlib.Omega.{arith}
 use lib.ListN.{get_or}
+use Rattle.std.specs.Int.{swap_bytes, w32}
+use Rattle.std.specs.Int.Bits.{bit_or}
+use Rattle.std.proofs.lemmas.Nat.{or_shifted, shl_whole}
 use Rattle.octets.specs.Numbers.{digits}
 use Rattle.aes_schedule.specs.Words.{bytes_of}
 use Rattle.aes_schedule.proofs.WordLaws.{four}
 
 -- the bytes of x from the highest on
-pub turned-digits : {a b c d : ℕ} (x : ℕ) → a ≡ x / 16777216 % 256 → b ≡ x / 65536 % 256 → c ≡ x / 256 % 256 → d ≡ x % 256 → a ∷ b ∷ c ∷ d ∷ [] ≡ digits 4 x
+turned-digits : {a b c d : ℕ} (x : ℕ) → a ≡ x / 16777216 % 256 → b ≡ x / 65536 % 256 → c ≡ x / 256 % 256 → d ≡ x % 256 → a ∷ b ∷ c ∷ d ∷ [] ≡ digits 4 x
 unfolding digits
 turned-digits x p q u v = four p q u (v ∙ omega arith)
+
+pub swapped : (x : ℕ) → bytes_of (swap_bytes w32 x) ≡ digits 4 x
+swapped x = turned-digits x (omega arith) (omega arith) (omega arith) (omega arith)
 
 -- what is turned is turned back
 turned-back : (x r : ℕ) → bytes_of r ≡ digits 4 x → digits 4 r ≡ bytes_of x
@@ -39,6 +45,7 @@ pub half-words : (x : ℕ) {u v : ℕ} {s t : List ℕ} → u ≡ x / 2 ^ 32 →
 half-words x u v s t = ap₂ ◌++◌ (s ∙ ap (digits 4) u) (t ∙ ap (digits 4) v) ∙ sym (digits-words x)
 
 -- and a half made of its words
-pub half-digits : (p q u v : ℕ) → v < 2 ^ 32 → bytes_of u ≡ digits 4 p → bytes_of v ≡ digits 4 q → digits 8 (u * 2 ^ 32 + v) ≡ bytes_of p ++ bytes_of q
-half-digits p q u v h d e =
-    sym (half-words (u * 2 ^ 32 + v) (omega arith) (omega arith) (sym (turned-back p u d)) (sym (turned-back q v e)))
+pub half-digits : (p q u v : ℕ) → u < 2 ^ 32 → v < 2 ^ 32 → bytes_of u ≡ digits 4 p → bytes_of v ≡ digits 4 q → digits 8 (bit_or (u * 2 ^ 32 % 2 ^ 64) v) ≡ bytes_of p ++ bytes_of q
+half-digits p q u v g h d e =
+    ap (digits 8) (ap (λ (n : ℕ). bit_or n v) (shl_whole u 32 32 64 g (omega arith)) ∙ or_shifted u 32 v h)
+    ∙ sym (half-words (u * 2 ^ 32 + v) (omega arith) (omega arith) (sym (turned-back p u d)) (sym (turned-back q v e)))

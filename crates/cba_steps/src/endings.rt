@@ -1,13 +1,23 @@
 // How what follows the first ℓ bits of a message ends: the form that its length takes.
-ghost use Rattle.std.specs.Prelude.{◌≤◌, ◌<◌};
-ghost use Rattle.cba_steps.specs.Endings.{Decided};
+ghost use Rattle.std.specs.Prelude.{◌≡◌, ◌≤◌, ◌<◌};
+ghost use Rattle.cba_steps.specs.Endings.{blocks_of, Decided};
 
 // The form, and the number of full blocks before the last two of the joined form or the last one of
 // the separate.
-#[derive(Clone, Copy)]
-pub struct Ending {
-    pub joined: bool,
-    pub blocks: usize,
+#[derive(Clone, Copy, Debug, PartialEq, Eq)]
+pub enum Ending {
+    Joined { blocks: usize },
+    Separate { blocks: usize },
+}
+
+impl Ending {
+    pub fn blocks(self) -> usize
+        ensures { result ≡ blocks_of self }
+    {
+        match self {
+            Ending::Joined { blocks } | Ending::Separate { blocks } => blocks,
+        }
+    }
 }
 
 // Of a message of n bytes, of which l come first, with a tag of t bytes.
@@ -17,20 +27,8 @@ pub fn ending_of(l: usize, t: usize, n: usize) -> Ending
     ensures { Decided l t n result }
 {
     let k = (n - l - 1) / 16;
-    if k < 1 {
-        return Ending {
-            joined: false,
-            blocks: k,
-        };
+    if k >= 1 && n - l - 16 * k + t <= 16 {
+        return Ending::Joined { blocks: k - 1 };
     }
-    if n - l - 16 * k + t <= 16 {
-        return Ending {
-            joined: true,
-            blocks: k - 1,
-        };
-    }
-    Ending {
-        joined: false,
-        blocks: k,
-    }
+    Ending::Separate { blocks: k }
 }

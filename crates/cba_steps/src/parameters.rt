@@ -29,11 +29,7 @@ impl Parameters {
         requires { self.capacity ≤ 48 }
         ensures { result ≡ ell self.tau self.capacity }
     {
-        let room = 96 - 2 * self.capacity;
-        if room < self.tau {
-            return room;
-        }
-        self.tau
+        (96 - 2 * self.capacity).min(self.tau)
     }
 
     pub fn first_bytes(self) -> usize

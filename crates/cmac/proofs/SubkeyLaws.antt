@@ -16,7 +16,7 @@ use Rattle.octets.specs.Xor.{xors}
 use Rattle.octets.specs.Numbers.{digits}
 use Rattle.octets.proofs.Xor.{xors-comm, xors-zero, append_xors}
 use Rattle.octets.proofs.Numbers.{length_digits, digits_xor, get_or-digits}
-use Rattle.cba_steps.proofs.StartLaws.{number-pair, digits-pair, low_fits, half-fits}
+use Rattle.cba_steps.proofs.StartLaws.{number-pair, digits-pair}
 use Rattle.cmac_rules.specs.Cmac.{Rb, top_bit, shifted, double}
 
 -- two numbers to base W = 2 P, twice, where q P + r and s P + t are the numbers
@@ -32,10 +32,10 @@ module _ (a b : ℕ) (h : a < 2 ^ 64) (k : b < 2 ^ 64) where
   lower = b % 2 ^ 63 * 2
 
   pub upper_fits : upper < 2 ^ 64
-  upper_fits = half-fits (2 ^ 63) 2 refl b a k
+  upper_fits = omega (arith, k)
 
   lower-fits : lower < 2 ^ 64
-  lower-fits = low_fits (2 ^ 63) 2 refl b
+  lower-fits = omega arith
 
   -- the bit that is lost stands above 2^128
   shifted-number : (a * 2 ^ 64 + b) * 2 % 2 ^ 128 ≡ upper * 2 ^ 64 + lower
@@ -66,6 +66,10 @@ module _ (a b : ℕ) (h : a < 2 ^ 64) (k : b < 2 ^ 64) where
       (sym (xors-comm (digits 8 upper) (replicate 8 0) ∙ xors-zero 8 (digits 8 upper) ∙ take_all 8 (digits 8 upper) (rw length_digits (omega arith))))
       (digits_xor 8 lower 0x87)
       ∙ sym (append_xors (digits 8 upper) (replicate 8 0) (digits 8 lower) (digits 8 0x87) (length_digits 8 upper))
+
+  -- the same by shifts of 64 bits
+  pub by-shifts : (a * 2 % 2 ^ 64 + b / 2 ^ 63 ≡ upper) × (b * 2 % 2 ^ 64 ≡ lower)
+  by-shifts = (omega arith, omega arith)
 
   pub double_halves : digits 8 upper ++ digits 8 (bit_xor lower (a / 2 ^ 63 * 0x87)) ≡ double (digits 8 a ++ digits 8 b)
   unfolding double

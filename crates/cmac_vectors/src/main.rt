@@ -8,55 +8,32 @@
 #![tactic(auto)]
 
 ghost use Rattle.std.specs.Prelude.{◌≤◌, length};
-ghost use Rattle.aes.specs.Context.{Encrypts};
 
-// A name, a space, bytes and the line's end.
-fn print_line(rt: &impl Print, name: &[u8], s: &[u8]) {
-    show::text(rt, name);
-    show::space(rt);
-    show::bytes(rt, s);
-    show::line_end(rt);
-}
+use aes::Encryption;
+use show::Hex;
 
 // L and the subkeys.
-fn print_subkeys(rt: &impl Print, key: &[u8], ctx: &aes::Context)
-    requires { Encrypts key.now ctx.now }
-{
-    let l = aes::encrypt(key, ctx, [0; 16]);
-    print_line(rt, b"L", &l);
-    let s = cmac::generate_subkeys(key, ctx);
-    let k1 = s.k1;
-    print_line(rt, b"K1", &k1);
-    let k2 = s.k2;
-    print_line(rt, b"K2", &k2);
+fn print_subkeys(rt: &impl Print, e: &Encryption) {
+    let l = e.encrypt([0; 16]);
+    let s = cmac::generate_subkeys(e);
+    let _ = println!(rt; "L {}", Hex(&l));
+    let _ = println!(rt; "K1 {}", Hex(&s.k1));
+    let _ = println!(rt; "K2 {}", Hex(&s.k2));
 }
 
-// The length of a start of the message, and its code.
-fn print_code(rt: &impl Print, key: &[u8], ctx: &aes::Context, message: &[u8], n: usize)
-    requires encrypts { Encrypts key.now ctx.now }
-    requires n_in_bounds { n ≤ length message.now }
-{
-    let t = cmac::code(key, ctx, &message[..n]);
-    show::number(rt, n as u64);
-    show::space(rt);
-    show::bytes(rt, &t);
-    show::line_end(rt);
-}
-
-// All lines of a key, under its name.
-fn example(rt: &impl Print, name: &[u8], key: &[u8], message: &[u8])
+// All lines of a key, under its name: of the codes each has the length of a start of the message.
+fn example(rt: &impl Print, name: &str, key: &[u8], message: &[u8])
     requires { 64 ≤ length message.now }
 {
-    print_line(rt, name, key);
+    let _ = println!(rt; "{name} {}", Hex(key));
     if aes::is_key(key) {
         let mut ctx = aes::blank();
-        aes::fill(key, &mut ctx);
-        print_subkeys(rt, key, &ctx);
-        print_code(rt, key, &ctx, message, 0);
-        print_code(rt, key, &ctx, message, 16);
-        print_code(rt, key, &ctx, message, 20);
-        print_code(rt, key, &ctx, message, 40);
-        print_code(rt, key, &ctx, message, 64);
+        let e = Encryption::new(key, &mut ctx);
+        print_subkeys(rt, &e);
+        for n in [0, 16, 20, 40, 64] {
+            let code = cmac::code(&e, &message[..n]);
+            let _ = println!(rt; "{n} {}", Hex(&code));
+        }
     }
 }
 
@@ -66,19 +43,19 @@ fn main(rt: HostRuntime) {
     let m = &message[..];
     example(
         &rt,
-        b"AES-128",
+        "AES-128",
         b"\x2b\x7e\x15\x16\x28\xae\xd2\xa6\xab\xf7\x15\x88\x09\xcf\x4f\x3c",
         m,
     );
     example(
         &rt,
-        b"AES-192",
+        "AES-192",
         b"\x8e\x73\xb0\xf7\xda\x0e\x64\x52\xc8\x10\xf3\x2b\x80\x90\x79\xe5\x62\xf8\xea\xd2\x52\x2c\x6b\x7b",
         m,
     );
     example(
         &rt,
-        b"AES-256",
+        "AES-256",
         b"\x60\x3d\xeb\x10\x15\xca\x71\xbe\x2b\x73\xae\xf0\x85\x7d\x77\x81\x1f\x35\x2c\x07\x3b\x61\x08\xd7\x2d\x98\x10\xa3\x09\x14\xdf\xf4",
         m,
     );

@@ -3,158 +3,154 @@
 #![tactic(auto)]
 
 ghost use Rattle.std.specs.Prelude.{◌≡◌, false, ◌≤◌, length, take};
-ghost use Rattle.hub_run.specs.Values.{end_room, state_of, Sound};
-ghost use Rattle.hub.specs.Follows.{Small, Follows, Reached};
-ghost use Rattle.hub_rules.specs.Stream.{line_room, line_kept, is_done};
+ghost use Rattle.hub.specs.Follows.{Small, going_on, Follows, Reached};
+ghost use Rattle.hub_rules.specs.Stream.{is_done};
 
 use hub_run::Hub;
 use std::io::{ErrorKind, Read};
 
-// The state, how much of the input was read last, how many bytes of what it says were written, whether
-// more is to be read, and whether a write failed.
+// The input and the output, so many bytes at once.
+type Buffer = [u8; 65536];
+
+// How the reading goes on: more is to be read, or no more counts or comes, or a write failed.
 #[derive(Clone, Copy)]
-struct Going {
-    hub: Hub,
+enum Going {
+    More,
+    Over,
+    Failed,
+}
+
+impl Going {
+    // After a chunk that was said.
+    fn after(hub: &Hub) -> Going
+        ensures { result ≡ going_on (is_done hub.now.state) }
+    {
+        if hub.is_over() {
+            Going::Over
+        } else {
+            Going::More
+        }
+    }
+}
+
+// How many bytes were read, how many bytes of what they say were written, and how the reading goes on.
+#[derive(Clone, Copy)]
+struct Step {
     read: usize,
     wrote: usize,
-    more: bool,
-    failed: bool,
+    going: Going,
 }
 
-// Writes the first n bytes of out, and says how many are known to be written: all, or none where a write
-// failed.
-fn write(rt: &impl Print, out: &[u8], n: usize) -> usize
-    requires { n ≤ length out.now }
-    ensures { result ≤ n }
-{
-    if rt.write_all(&out[..n]).is_ok() {
-        return n;
+impl Step {
+    // Nothing was read.
+    fn of_nothing(going: Going) -> Step
+        ensures { result ≡ record { read = 0; wrote = 0; going = going } }
+    {
+        Step {
+            read: 0,
+            wrote: 0,
+            going,
+        }
     }
-    0
 }
 
-// Feeds a chunk and writes what it says, piece by piece where the output is longer than its buffer.
-fn say(rt: &impl Print, h: Hub, line: &mut [u8], chunk: &[u8], out: &mut [u8]) -> Going
-    requires line_room_in_bounds { (line_room ≤ length out.old) × Small out.old × Small chunk.now }
-    requires sound { Sound h line.old }
-    ensures { Follows h line.old chunk.now result line.new }
+// Writes s, and says how many bytes are known to be written: all, or none where a write failed.
+fn write(rt: &impl Print, s: &[u8]) -> usize
+    ensures { result ≤ length s.now }
 {
-    let mut next = h;
-    let mut used = 0;
+    match rt.write_all(s) {
+        Ok(()) => s.len(),
+        Err(_) => 0,
+    }
+}
+
+// Feeds a chunk and writes what it says, piece by piece where the output is longer than its buffer. No
+// `for`: a turn takes as many bytes of the rest as the output has room for.
+fn say(rt: &impl Print, hub: &mut Hub, chunk: &[u8], out: &mut Buffer) -> Step
+    requires { Small chunk.now }
+    ensures { Follows hub.old chunk.now result hub.new }
+{
+    let mut rest = chunk;
     let mut wrote = 0;
-    while used < chunk.len() {
-        let f = hub_run::feed(next, line, &chunk[used..], out);
-        next = f.hub;
-        used += f.used;
-        let n = write(rt, out, f.written);
+    while !rest.is_empty() {
+        let fed = hub.feed(rest, out);
+        rest = &rest[fed.used..];
+        let n = write(rt, &out[..fed.written]);
         wrote += n;
-        if n < f.written {
-            return Going {
-                hub: next,
+        if n < fed.written {
+            return Step {
                 read: chunk.len(),
-                wrote: wrote,
-                more: false,
-                failed: true,
+                wrote,
+                going: Going::Failed,
             };
         }
     }
-    Going {
-        hub: next,
+    Step {
         read: chunk.len(),
-        wrote: wrote,
-        more: !hub_run::is_over(next),
-        failed: false,
+        wrote,
+        going: Going::after(hub),
     }
 }
 
-// Nothing was read.
-fn nothing(h: Hub, more: bool) -> Going
-    ensures { (result.hub ≡ h) × (result.read ≡ 0) × (result.wrote ≡ 0) × (result.more ≡ more) × (result.failed ≡ false) }
-{
-    Going {
-        hub: h,
-        read: 0,
-        wrote: 0,
-        more: more,
-        failed: false,
-    }
+// What a run reads and writes by, with a buffer for each.
+#[derive(Drop)]
+struct Console<'a, P: Print, R: Read> {
+    rt: &'a P,
+    source: &'a mut R,
+    input: Buffer,
+    out: Buffer,
 }
 
-// One read, and what it says: the state after the bytes that it read, which are the first of input. A
-// read that was interrupted is done again; any other that fails ends the input.
-fn read_some(
-    rt: &impl Print,
-    source: &mut impl Read,
-    h: Hub,
-    input: &mut [u8],
-    line: &mut [u8],
-    out: &mut [u8],
-) -> Going
-    requires line_room_in_bounds { (line_room ≤ length out.old) × Small out.old × Small input.old }
-    requires sound { Sound h line.old × (is_done (state_of h line.old) ≡ false) }
-    ensures { Follows h line.old (take result.read input.new) result line.new }
-{
-    match source.read(input) {
-        Err(e) => nothing(h, e.kind() == ErrorKind::Interrupted),
-        Ok(0) => nothing(h, false),
-        Ok(n) => say(rt, h, line, &input[..n], out),
-    }
-}
-
-// Reads until the input ends, no more of it counts, or a write fails. A proved loop has to end, and
-// nothing says that an input does, so it counts its turns down from a number that no run uses up.
-fn read_all(
-    rt: &impl Print,
-    source: &mut impl Read,
-    input: &mut [u8],
-    line: &mut [u8],
-    out: &mut [u8],
-) -> Going
-    requires line_kept_in_bounds { (line_kept ≤ length line.old) × (line_room ≤ length out.old) }
-    requires small { Small out.old × Small input.old }
-    ensures { Reached result line.new }
-{
-    let mut g = nothing(hub_run::begin(), true);
-    let mut turns = u64::MAX;
-    while turns > 0 {
-        let h = g.hub;
-        g = read_some(rt, source, h, input, line, out);
-        if !g.more {
-            return g;
+impl<'a, P: Print, R: Read> Console<'a, P, R> {
+    // One read, and what it says: the state after the bytes that it read, which are the first of input. A
+    // read that was interrupted is done again; any other that fails ends the input.
+    fn read_some(&mut self, hub: &mut Hub) -> Step
+        requires { is_done hub.old.state ≡ false }
+        ensures { Follows hub.old (take result.read self.new.input) result hub.new }
+    {
+        match self.source.read(&mut self.input) {
+            Err(e) if e.kind() == ErrorKind::Interrupted => Step::of_nothing(Going::More),
+            Ok(0) | Err(_) => Step::of_nothing(Going::Over),
+            Ok(n) => say(self.rt, hub, &self.input[..n], &mut self.out),
         }
-        turns -= 1;
     }
-    g
-}
 
-// What is said at the end of the input.
-fn end(rt: &impl Print, h: Hub, line: &[u8], out: &mut [u8])
-    requires { (end_room ≤ length out.old) × Sound h line.now }
-{
-    let n = hub_run::finish(h, line, out);
-    write(rt, out, n);
-}
+    // Reads until the input ends, no more of it counts, or a write fails. A proved loop has to end, and
+    // nothing says that an input does, so it has more turns than a run uses up.
+    fn read_all(&mut self) -> (Hub, Step)
+        ensures { Reached result.1 result.0 }
+    {
+        let mut hub = Hub::new();
+        for _ in 0..u64::MAX {
+            let step = self.read_some(&mut hub);
+            let Going::More = step.going else {
+                return (hub, step);
+            };
+        }
+        (hub, Step::of_nothing(Going::More))
+    }
 
-// The heading, what the input says, and the end.
-fn run(rt: &impl Print, source: &mut impl Read, input: &mut [u8], line: &mut [u8], out: &mut [u8])
-    requires line_kept_in_bounds { (line_kept ≤ length line.old) × (end_room ≤ length out.old) }
-    requires small { Small out.old × Small input.old }
-{
-    let n = hub_run::put_heading(out);
-    if write(rt, out, n) < n {
-        return;
+    // The heading, what the input says, and the end.
+    fn run(&mut self) {
+        let n = hub_run::put_heading(&mut self.out);
+        if write(self.rt, &self.out[..n]) < n {
+            return;
+        }
+        let (hub, step) = self.read_all();
+        if let Going::Failed = step.going {
+            return;
+        }
+        let n = hub.finish(&mut self.out);
+        write(self.rt, &self.out[..n]);
     }
-    let g = read_all(rt, source, input, line, out);
-    if g.failed {
-        return;
-    }
-    let h = g.hub;
-    end(rt, h, line, out);
 }
 
 fn main(rt: HostRuntime) {
-    let mut input = [0u8; 65536];
-    let mut out = [0u8; 65536];
-    let mut line = [0u8; hub_run::LINE_KEPT];
-    run(&rt, &mut rt.stdin(), &mut input, &mut line, &mut out);
+    let mut console = Console {
+        rt: &rt,
+        source: &mut rt.stdin(),
+        input: [0; 65536],
+        out: [0; 65536],
+    };
+    console.run();
 }

@@ -2,26 +2,19 @@
 -- Assumes nothing.
 use mathlib.Core.Path.{◌≡◌, subst}
 use mathlib.Core.List.{List, [], ◌∷◌, ◌++◌, append_assoc}
-use Prim.Native.Nat.{ℕ, ◌+◌, ◌*◌, ◌≤◌}
-use native.Mathlib.Omega.{arith}
+use Prim.Native.Nat.{ℕ}
+use Rattle.text.specs.declared.writer.Writer.{Writer}
 use Rattle.text.specs.Numerals.{decimal, shown}
-use Rattle.text.specs.Writing.{Puts}
+use Rattle.text.specs.Writing.{Puts, Wrote}
+use Rattle.text.proofs.WritingLaws.{wrote-then, wrote-puts}
 use Rattle.hub_rules.specs.Answers.{line_text}
 
 line-is : (n a : ℕ) (s : List ℕ) → ((decimal n ++ (32 ∷ decimal a)) ++ (32 ∷ shown s)) ++ (10 ∷ []) ≡ line_text n a s
 unfolding line_text
 line-is n a s = simp append_assoc
 
-pub line-written : (n a r : ℕ) (s d out : List ℕ) → Puts (((decimal n ++ (32 ∷ decimal a)) ++ (32 ∷ shown s)) ++ (10 ∷ [])) r d out → Puts (line_text n a s) r d out
-line-written n a r s d out w = subst (λ (t : List ℕ). Puts t r d out) (line-is n a s) w
-
--- a line's strings go in, one after the other: m is how long the output is by then
-module _ (n : ℕ) {d a b c : ℕ} (h : 2 * n + 14 ≤ d) (p : a ≤ 5) (q : b ≤ 6) (r : c ≤ 2 * n + 2) {m : ℕ} (e : m ≡ d) where
-  pub room-two : a + b ≤ m
-  room-two = omega (arith, h, p, q, e)
-
-  pub room-three : a + b + c ≤ m
-  room-three = omega (arith, h, p, q, r, e)
-
-  pub room-four : {k : ℕ} → k ≡ 1 → a + b + c + k ≤ m
-  room-four f = omega (arith, h, p, q, r, e, f)
+-- by a new writer on d
+pub line-written : (n a : ℕ) (s d : List ℕ) {v w x y z : Writer} → v.at ≡ 0 → v.out.now ≡ d →
+    Wrote (decimal n) v w → Wrote (32 ∷ decimal a) w x → Wrote (32 ∷ shown s) x y → Wrote (10 ∷ []) y z → Puts (line_text n a s) z.at d z.out.now
+line-written n a s d {v} {z = z} b e h i j k =
+    subst (λ (t : List ℕ). Puts t z.at d z.out.now) (line-is n a s) (wrote-puts d b e (wrote-then (wrote-then (wrote-then h i) j) k))

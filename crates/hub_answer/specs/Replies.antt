@@ -1,11 +1,14 @@
--- What the code replies to a line and writes of it: the paper's values for its structs.
+-- What the code replies to a line and writes of it: the definitions' values for its structs.
 -- Assumes nothing.
-use Rattle.std.specs.Prelude.{◌≡◌, Bool, true, false, cond, List, ℕ, ◌+◌, ◌-◌, ◌≤◌, length, take}
+use Rattle.std.specs.Prelude.{◌≡◌, Bool, true, false, cond, List, ℕ, ◌+◌, ◌-◌, ◌≤◌, eqb, Result, Ok, Err, length, take}
+use Rattle.std.specs.Option.{is_some, unwrap_or}
+use Rattle.answers.specs.declared.refusals.Refusal.{Refusal}
+use Rattle.answers.specs.Refusals.{number_of}
 use Rattle.cba_mode.specs.Sets.{is_set}
 use Rattle.cba_rules.specs.Checks.{set_tag}
 use Rattle.cba_rules.specs.Refusals.{SealCall, OpenCall}
 use Rattle.hub_text.specs.declared.request.Asked.{Asked}
-use Rattle.hub_answer.specs.declared.answer.Reply.{Reply}
+use Rattle.hub_answer.specs.declared.answer.Accepted.{Accepted}
 use Rattle.hub_answer.specs.declared.answer.Answer.{Answer}
 use Rattle.text.specs.Writing.{Puts}
 use Rattle.hub_grammar.specs.Lines.{Request, Parsed, parse}
@@ -37,18 +40,25 @@ pub record Called (q : Request) (out : List ℕ) (r : ℕ) (out' : List ℕ) : T
   pub sealed : q.seals ≡ true → SealCall q.set q.key q.nonce q.ad q.text out r out'
   pub opened : q.seals ≡ false → OpenCall q.set q.key q.nonce q.ad q.text out r out'
 
--- a reply that refuses
-abbrev pub Refused : ℕ → Reply → Type 0
-Refused a r = (r.answer ≡ a) × (r.set ≡ 0) × (r.size ≡ 0)
+-- the set of an accepted line, else 0, and how many bytes its result has
+abbrev pub set_of : Result Accepted Refusal → ℕ
+set_of (Ok a) = a.set
+set_of (Err e) = 0
+
+abbrev pub size_of : Result Accepted Refusal → ℕ
+size_of (Ok a) = a.size
+size_of (Err e) = 0
 
 -- r is what a line is answered, its result being the first bytes of b
-pub record Replies (p : Parsed) (r : Reply) (b : List ℕ) : Type 0 where
-  pub answer-is : r.answer ≡ answer_of p
-  pub set_is : r.set ≡ accepted_set p
-  pub fits : r.size ≤ length b
-  pub result_is : take r.size b ≡ result_of p
+pub record Replies (p : Parsed) (r : Result Accepted Refusal) (b : List ℕ) : Type 0 where
+  pub answer-is : number_of r ≡ answer_of p
+  pub set_is : set_of r ≡ accepted_set p
+  pub fits : size_of r ≤ length b
+  pub result_is : take (size_of r) b ≡ result_of p
 
 -- the line of output over the first bytes of d
 pub record Answers (n : ℕ) (s : List ℕ) (r : Answer) (d out : List ℕ) : Type 0 where
-  pub set_is : r.set ≡ accepted_set (parse s)
+  -- there is a set exactly where the answer is 0
+  pub accepts : is_some r.set ≡ eqb (answer_of (parse s)) 0
+  pub set_is : unwrap_or r.set 0 ≡ accepted_set (parse s)
   pub line-is : Puts (line_for n s) r.written d out

@@ -3,10 +3,11 @@
 
 mod chunk;
 mod ending;
+mod kept;
 mod line;
 mod state;
 mod summary;
 
-pub use chunk::{Fed, feed};
-pub use ending::finish;
-pub use state::{Hub, LINE_KEPT, begin, is_over, put_heading};
+pub use chunk::Fed;
+pub use kept::{LINE_KEPT, Line};
+pub use state::{Hub, is_over, put_heading};

@@ -4,5 +4,5 @@
 mod cut;
 mod request;
 
-pub use cut::{Cut, length_before, spaces};
-pub use request::{Asked, BYTES_ROOM, LINE_LIMIT, is_word, read_line, word};
+pub use cut::{Words, length_before, six_words};
+pub use request::{Act, Asked, BYTES_ROOM, LINE_LIMIT, is_word, read_line, word};

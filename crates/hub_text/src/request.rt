@@ -1,13 +1,13 @@
 // What a line asks for.
-ghost use Rattle.std.specs.Prelude.{◌≡◌, true, ◌||◌, ◌+◌, ◌/◌, ◌≤◌, length};
+ghost use Rattle.std.specs.Prelude.{◌≡◌, true, ◌+◌, ◌/◌, ◌≤◌, length};
 ghost use Rattle.octets.specs.Strings.{eqs};
 ghost use Rattle.text.specs.Numerals.{is_value, value_of};
-ghost use Rattle.hub_grammar.specs.Lines.{line_limit, seal_word, open_word};
-ghost use Rattle.hub_text.specs.Cuts.{part, Cuts};
-ghost use Rattle.hub_text.specs.Requests.{bytes_room, well_formed_at, Asks, Next, none_asked, Read};
+ghost use Rattle.hub_grammar.specs.Lines.{line_limit};
+ghost use Rattle.hub_text.specs.Cuts.{part};
+ghost use Rattle.hub_text.specs.Requests.{bytes_room, act_of, have_values, Fit, Next, Strings, Read};
 
-use crate::cut::{Cut, spaces};
-use text::{is_set_number, is_value, read_value, set_number};
+use crate::cut::{Words, six_words};
+use text::{is_value, read_set_number, read_value};
 
 // A line has at most so many bytes.
 pub const LINE_LIMIT: usize = 4096;
@@ -15,12 +15,18 @@ pub const LINE_LIMIT: usize = 4096;
 // Room for the bytes that a line's strings stand for, two characters each.
 pub const BYTES_ROOM: usize = 2048;
 
-// A request's act and set, and where its strings end in the bytes that were read; good is false for
-// a malformed line.
+#[derive(Clone, Copy, Debug, PartialEq, Eq)]
+pub enum Act {
+    Seal,
+    Open,
+}
+
+// A request's act and set, and where its strings end in the bytes that were read. They are places
+// and not slices: where a result borrows bytes, only an `ensures*` can promise what bytes holds
+// then, and the check proves none of this form.
 #[derive(Clone, Copy)]
 pub struct Asked {
-    pub good: bool,
-    pub seals: bool,
+    pub act: Act,
     pub set: u32,
     pub key: usize,
     pub nonce: usize,
@@ -32,40 +38,17 @@ pub struct Asked {
 pub fn is_word(w: &[u8], word: &[u8]) -> bool
     ensures { result ≡ eqs w.now word.now }
 {
-    if w.len() != word.len() {
-        return false;
-    }
-    let mut i = 0;
-    while i < w.len() {
-        if w[i] != word[i] {
-            return false;
-        }
-        i += 1;
-    }
-    true
+    w == word
 }
 
-fn is_seal(w: &[u8]) -> bool
-    ensures { result ≡ eqs w.now seal_word }
+fn read_act(w: &[u8]) -> Option<Act>
+    ensures { result ≡ act_of w.now }
 {
-    let word = [115, 101, 97, 108];
-    is_word(w, &word)
-}
-
-fn is_open(w: &[u8]) -> bool
-    ensures { result ≡ eqs w.now open_word }
-{
-    let word = [111, 112, 101, 110];
-    is_word(w, &word)
-}
-
-fn is_act(w: &[u8]) -> bool
-    ensures { result ≡ (eqs w.now seal_word || eqs w.now open_word) }
-{
-    if is_seal(w) {
-        return true;
+    match w {
+        b"seal" => Some(Act::Seal),
+        b"open" => Some(Act::Open),
+        _ => None,
     }
-    is_open(w)
 }
 
 // The characters of a line from one place to another.
@@ -76,28 +59,11 @@ pub fn word<'a>(line: &'a [u8], from: usize, to: usize) -> &'a [u8]
     &line[from..to]
 }
 
-// Whether six words are a request.
-fn is_request(line: &[u8], w: Cut) -> bool
-    requires good_value { w.good ≡ true }
-    requires cuts { Cuts line.now w }
-    ensures { result ≡ well_formed_at line.now w }
+// Whether the last four words are values.
+fn have_values(w: Words) -> bool
+    ensures { result ≡ have_values w.entry }
 {
-    if !is_act(word(line, 0, w.a)) {
-        return false;
-    }
-    if !is_set_number(word(line, w.a + 1, w.b)) {
-        return false;
-    }
-    if !is_value(word(line, w.b + 1, w.c)) {
-        return false;
-    }
-    if !is_value(word(line, w.c + 1, w.d)) {
-        return false;
-    }
-    if !is_value(word(line, w.d + 1, w.e)) {
-        return false;
-    }
-    is_value(word(line, w.e + 1, line.len()))
+    is_value(w.key) && is_value(w.nonce) && is_value(w.ad) && is_value(w.text)
 }
 
 // What a value stands for, over the bytes from a place on, and where it ends.
@@ -110,53 +76,36 @@ fn read_next(w: &[u8], bytes: &mut [u8], at: usize) -> usize
 }
 
 // The request of six words that are one: its strings over the first bytes of bytes.
-fn read_request(line: &[u8], w: Cut, bytes: &mut [u8]) -> Asked
-    requires asks { Asks line.now w }
+fn read_strings(act: Act, set: u32, w: Words, bytes: &mut [u8]) -> Asked
+    requires values { have_values w ≡ true }
+    requires fit { Fit w }
     requires bytes_room_in_bounds { bytes_room ≤ length bytes.old }
-    ensures { Read line.now result bytes.old bytes.new }
+    ensures { Strings act set w.entry result bytes.old bytes.new }
 {
-    let seals = is_seal(word(line, 0, w.a));
-    let set = set_number(word(line, w.a + 1, w.b));
-    let key = read_next(word(line, w.b + 1, w.c), bytes, 0);
-    let nonce = read_next(word(line, w.c + 1, w.d), bytes, key);
-    let ad = read_next(word(line, w.d + 1, w.e), bytes, nonce);
-    let text = read_next(word(line, w.e + 1, line.len()), bytes, ad);
+    let key = read_next(w.key, bytes, 0);
+    let nonce = read_next(w.nonce, bytes, key);
+    let ad = read_next(w.ad, bytes, nonce);
+    let text = read_next(w.text, bytes, ad);
     Asked {
-        good: true,
-        seals: seals,
-        set: set,
-        key: key,
-        nonce: nonce,
-        ad: ad,
-        text: text,
-    }
-}
-
-fn malformed() -> Asked
-    ensures { result ≡ none_asked }
-{
-    Asked {
-        good: false,
-        seals: false,
-        set: 0,
-        key: 0,
-        nonce: 0,
-        ad: 0,
-        text: 0,
+        act,
+        set,
+        key,
+        nonce,
+        ad,
+        text,
     }
 }
 
 // What a line within the limit says.
-pub fn read_line(line: &[u8], bytes: &mut [u8]) -> Asked
+pub fn read_line(line: &[u8], bytes: &mut [u8]) -> Option<Asked>
     requires { (length line.now ≤ line_limit) × (bytes_room ≤ length bytes.old) }
     ensures { Read line.now result bytes.old bytes.new }
 {
-    let w = spaces(line);
-    if !w.good {
-        return malformed();
+    let w = six_words(line)?;
+    let act = read_act(w.act)?;
+    let set = read_set_number(w.set)?;
+    if !have_values(w) {
+        return None;
     }
-    if !is_request(line, w) {
-        return malformed();
-    }
-    read_request(line, w, bytes)
+    Some(read_strings(act, set, w, bytes))
 }

@@ -7,62 +7,51 @@ use Prim.Native.Nat.{ℕ, ◌+◌, ◌/◌, ◌≤◌}
 use native.Mathlib.Omega.{arith}
 use lib.Dec.{eqb}
 use lib.ListN.{length, take, drop}
+use Rattle.std.specs.Prelude.{Some, None, Result, Ok, Err, IsErrAnd}
 use Rattle.octets.specs.Strings.{over}
 use Rattle.octets.proofs.Parts.{size_of}
 use Rattle.answers.specs.Rows.{Row, answer, first_of, numbers, is_in, own_numbers}
-use Rattle.answers.proofs.RowLaws.{passed, neither, two-parts}
+use Rattle.answers.specs.declared.refusals.Refusal.{Refusal}
+use Rattle.answers.specs.Refusals.{number_of, number_of_refusal}
+use Rattle.answers.proofs.RowLaws.{accepts, two-parts}
+use Rattle.answers.proofs.RefusalLaws.{passed_first}
 use Rattle.fips197.specs.Schedule.{is_key}
 use Rattle.fips197.specs.Cipher.{cipher}
 use Rattle.cba_mode.specs.Sets.{tag_bits, capacity, tag_bytes}
 use Rattle.cba_mode.specs.Seal.{seal_with}
-use Rattle.cba_rules.specs.Checks.{set_tag, bad_key, message_rows}
+use Rattle.cba_rules.specs.Checks.{set_tag, bad_nonce, bad_start, message_rows}
 use Rattle.cba_rules.specs.Refusals.{seal_leaves, SealCall}
 use Rattle.cba_rules.proofs.SetLaws.{set-fits, set_key}
-use Rattle.cba_rules.proofs.RefusalLaws.{is-length}
+use Rattle.cba_rules.proofs.RefusalLaws.{has_length}
 use Rattle.cba_sealing.specs.Calls.{Seals, Enc}
 use Rattle.cba_steps.specs.declared.parameters.Parameters.{Parameters}
-use Rattle.plain.specs.declared.sets.Set.TheVariants.{Known, Unknown}
 use Rattle.plain.specs.Lookup.{lookup_of}
-use Rattle.plain.proofs.SetLaws.{is_known, its_values, its_key, its_tag, unknown-answers, key-known, key-limit}
-use Rattle.ledger_rules.specs.Ledger.{Ledger, no_ledger, fresh, make_rows, make_answer, made_ledger, key_of, nonce_rows, stale, charge_by, spent, own_rows, heading_at, Source, source_row, seal_charge, ledger_checks, ledger_rows, ledger_answer, charged, ledger_sealing, ledger_output, LedgerCall, carry_rows, carry_answer, with_charge, CarryCall}
+use Rattle.plain.proofs.SetLaws.{is_known, its_values, its_key, its_tag, unknown-answers}
+use Rattle.ledger.specs.declared.ledger.Ledger as code
+use Rattle.ledger.specs.Values.{after}
+use Rattle.ledger_rules.specs.Ledger.{Ledger, key_of, console_of, nonce_rows, stale, charge_by, spent, own_rows, heading_at, Source, source_row, seal_charge, ledger_checks, ledger_rows, ledger_answer, charged, ledger_sealing, ledger_output, LedgerCall, carry_rows, carry_answer, with_charge, CarryCall}
 use Rattle.ledger_rules.specs.Ledger.Source.{given, named}
-use Rattle.ledger_rules.proofs.LedgerLaws.{made_none, made-fresh, own-checks, in_groups, ledger_known, ledger_accepted, ledger_refused, ledger_done, given-plain, carried-refused, carried-accepted}
+use Rattle.ledger_rules.proofs.LedgerLaws.{own-checks, in_groups, ledger_known, ledger_accepted, ledger_refused, ledger_done, given-plain, carried-refused, carried-accepted}
 
--- ---- making
-
--- a refused making, and an accepted one
-module _ (set : ℕ) (key : List ℕ) (console : ℕ) (l : Ledger) where
-  pub refused-making : (r : ℕ) → r ≡ make_answer set key → (r ≡ 0 → ⊥) → l ≡ no_ledger → (r ≡ make_answer set key) × (l ≡ made_ledger set key console)
-  refused-making r e n f = (e, f ∙ sym (made_none set key console (λ z. n (e ∙ z))))
-
-  pub accepted-making : make_answer set key ≡ 0 → l ≡ fresh true set key console → (0 ≡ make_answer set key) × (l ≡ made_ledger set key console)
-  accepted-making e f = (sym e, f ∙ sym (made-fresh set key console e))
-
-pub make_unknown : (set : ℕ) (key : List ℕ) → lookup_of set ≡ Unknown → 1 ≡ make_answer set key
-unfolding make_answer make_rows
-make_unknown set key h = unknown-answers set _ h
-
-pub make_known : (set : ℕ) (p : Parameters) (key : List ℕ) → lookup_of set ≡ Known p → answer (bad_key (p.key / 8) (length key) ∷ []) ≡ make_answer set key
-unfolding make_answer make_rows
-make_known set p key h = key-known set p (length key) h
-
-pub made-key : (set : ℕ) (key : List ℕ) → make_answer set key ≡ 0 → length key ≤ 32
-unfolding make_answer make_rows
-made-key set key e = key-limit set (length key) e
+-- what `?` hands on leaves the ledger
+pub handed_back : {l : code.Ledger} (P : ℕ → code.Ledger → Type 0) (r : Result code.Ledger Refusal) (x : Refusal) → IsErrAnd r (λ (y : Refusal). y ≡ x) →
+    P (number_of_refusal x) l → P (number_of r) (after l r)
+handed_back P (Ok a) x e p = absurd e
+handed_back {l} P (Err y) x e p = subst (λ (z : Refusal). P (number_of_refusal z) l) (sym e) p
 
 -- ---- sealing
 
+-- the checks of a nonce that has its length are that of its start
+pub start_is : {a x : ℕ} (console : ℕ) (N : List ℕ) → length N ≡ 12 → x ≡ console_of N → a ≡ answer (bad_start console x ∷ []) → a ≡ answer (nonce_rows console N)
+unfolding numbers is_in own_numbers
+start_is console N l p e =
+    passed_first (bad_nonce (length N) ∷ []) (bad_start console (console_of N) ∷ []) refl (sym (accepts (bad_nonce (length N) ∷ []) (has_length _ 12 l, tt)))
+    (e ∙ ap (λ (y : ℕ). answer (bad_start console y ∷ [])) p)
+
 -- the checks in their groups, by p's t, with source the answer of the data
-module _ (l : Ledger) (p : Parameters) (known : lookup_of l.set ≡ Known p) (N : List ℕ) (source message room : ℕ) where
+module _ (l : Ledger) (p : Parameters) (known : lookup_of l.set ≡ Some p) (N : List ℕ) (source message room : ℕ) where
   abbrev groups : ℕ
   groups = first_of (first_of (answer (nonce_rows l.console N)) source) (answer (message_rows (tag_bytes p.tau) message room))
-
-  -- the nonce is whole where none refuses
-  pub groups-nonce : groups ≡ 0 → length N ≡ 12
-  unfolding numbers is_in own_numbers
-  groups-nonce z =
-      let a = (neither (first_of (answer (nonce_rows l.console N)) source) (answer (message_rows (tag_bytes p.tau) message room)) z).0 in
-      is-length (length N) 12 (passed (nonce_rows l.console N) refl (neither (answer (nonce_rows l.console N)) source a).0).0
 
   -- with the ledger's own they are the answer, from whatever source the data come
   pub from-source : (S : Source) (c : ℕ) → source ≡ answer (source_row l S ∷ []) → c ≡ seal_charge l.heartbeats S message →
@@ -77,12 +66,12 @@ module _ (l : Ledger) (p : Parameters) (known : lookup_of l.set ≡ Known p) (N 
       ∙ sym (two-parts (ledger_checks t l.console N (source_row l S) message room) (own (seal_charge l.heartbeats S message)) (own-checks l t l.console N message room S))
       ∙ sym (ledger_known l N S message room (is_known l.set p known))
 
-pub unknown-refused : (l : Ledger) (N : List ℕ) (S : Source) (M out : List ℕ) → lookup_of l.set ≡ Unknown → LedgerCall l N S M out 1 l out
+pub unknown-refused : (l : Ledger) (N : List ℕ) (S : Source) (M out : List ℕ) → lookup_of l.set ≡ None → LedgerCall l N S M out 1 l out
 unfolding ledger_answer ledger_rows
 unknown-refused l N S M out h = ledger_refused l N S M out 1 (unknown-answers l.set _ h) (λ z. omega (arith, z))
 
 -- the part of the key that a call uses
-module _ (l : Ledger) (p : Parameters) (n : ℕ) (known : lookup_of l.set ≡ Known p) (e : n ≡ p.key / 8) where
+module _ (l : Ledger) (p : Parameters) (n : ℕ) (known : lookup_of l.set ≡ Some p) (e : n ≡ p.key / 8) where
   pub part-is : take n l.key ≡ key_of l
   unfolding key_of
   part-is = ap (λ (i : ℕ). take i l.key) (e ∙ its_key l.set p known)
@@ -116,7 +105,7 @@ module _ (l : Ledger) (p : Parameters) (n : ℕ) (known : lookup_of l.set ≡ Kn
       (w' ∙ ap (λ (k : ℕ). C ++ drop k out) (sym m) ∙ ap (λ (a : ℕ). cond (eqb a 0) (over C out) out) (sym z))
 
 -- what ENC by name is given
-pub named-seals : (l : Ledger) (p : Parameters) (N : List ℕ) (name : ℕ) (M out : List ℕ) → lookup_of l.set ≡ Known p →
+pub named-seals : (l : Ledger) (p : Parameters) (N : List ℕ) (name : ℕ) (M out : List ℕ) → lookup_of l.set ≡ Some p →
     ledger_answer l N (named name) (length M) (length out) ≡ 0 → Seals p N M out
 named-seals l p N name M out known z =
     let v = its_values l.set p known in
@@ -129,13 +118,13 @@ named-seals l p N name M out known z =
 -- ---- carrying
 
 module _ (l : Ledger) where
-  pub carry_unknown : lookup_of l.set ≡ Unknown → CarryCall l 1 l
+  pub carry_unknown : lookup_of l.set ≡ None → CarryCall l 1 l
   unfolding carry_answer carry_rows
   carry_unknown h =
       let e : 1 ≡ carry_answer l = unknown-answers l.set [] h in
       record { answer-is = e; next-is = sym (carried-refused l (λ z. omega (arith, e, z))) }
 
-  pub carry_known : (p : Parameters) → lookup_of l.set ≡ Known p → CarryCall l 0 (with_charge true l)
+  pub carry_known : (p : Parameters) → lookup_of l.set ≡ Some p → CarryCall l 0 (with_charge true l)
   unfolding carry_answer carry_rows answer
   carry_known p h =
       let e : 0 ≡ carry_answer l = rw (is_known l.set p h) refl in

@@ -8,16 +8,15 @@ use native.Mathlib.Omega.{arith}
 use borrow.Author.Tests.{lt-ltb, le-ltb, ltb-true}
 use lib.ListN.{length, take, get_or, set, get_or-map}
 use Rattle.fips197.specs.Cipher.{cipher}
-use Rattle.answers.specs.Rows.{answer, first_of, numbers, is_in, own_numbers}
-use Rattle.answers.proofs.RowLaws.{both, refuses, accepts, joined}
+use Rattle.answers.specs.Rows.{answer}
+use Rattle.answers.proofs.RowLaws.{both, refuses, accepts}
 use Rattle.cba_mode.specs.Sets.{tag_bits, capacity}
 use Rattle.cba_mode.specs.Data.{data_hash}
-use Rattle.cba_rules.specs.Checks.{long_data}
 use Rattle.cba_steps.specs.declared.parameters.Parameters.{Parameters}
-use Rattle.plain.specs.declared.sets.Set.TheVariants.{Known, Unknown}
+use Rattle.std.specs.Prelude.{Some, None}
 use Rattle.plain.specs.Lookup.{lookup_of}
-use Rattle.plain.proofs.SetLaws.{is_known, is-unknown, its_values}
-use Rattle.ledger_rules.specs.Ledger.{Ledger, spent, has_no_blocks, heading_at, is_heading_name, is_kept, bad_name, ledger_answer, keep_charge, keep_rows, keep_answer, sum_of, keeping, kept_ledger, KeepCall}
+use Rattle.plain.proofs.SetLaws.{is-unknown, its_values}
+use Rattle.ledger_rules.specs.Ledger.{Ledger, heading_at, is_heading_name, is_kept, bad_name, ledger_answer, keep_charge, keep_rows, keep_answer, sum_of, keeping, kept_ledger, KeepCall}
 use Rattle.ledger_rules.specs.Ledger.Source.{named}
 use Rattle.ledger_rules.proofs.LedgerLaws.{named-kept, kept-refused, kept-accepted}
 use Rattle.ledger.specs.declared.ledger.Heading.{Heading}
@@ -63,24 +62,16 @@ named-name l N name message out e = its_name name (both (is_heading_name name) (
 
 -- ---- keeping
 
--- the checks in their groups
-pub keep_groups : {a b c x r : ℕ} (l : Ledger) (p : Parameters) (name ad : ℕ) → lookup_of l.set ≡ Known p → x ≡ first_of a b → r ≡ first_of x c →
-    a ≡ answer (bad_name (is_heading_name name) ∷ []) → b ≡ answer (long_data ad ∷ []) → c ≡ answer (has_no_blocks (spent l (keep_charge l.heartbeats ad)) ∷ []) → r ≡ keep_answer l name ad
-unfolding keep_answer keep_rows answer numbers is_in own_numbers
-keep_groups l p name ad known i j e f g =
-    joined (bad_name (is_heading_name name) ∷ long_data ad ∷ []) (has_no_blocks (spent l (keep_charge l.heartbeats ad)) ∷ []) refl j (joined (bad_name (is_heading_name name) ∷ []) (long_data ad ∷ []) refl i e f) g
-    ∙ rw (is_known l.set p known) refl
-
 module _ (l : Ledger) (name : ℕ) (A : List ℕ) where
   pub keep_refused : {r : ℕ} → r ≡ keep_answer l name (length A) → (r ≡ 0 → ⊥) → KeepCall l name A r l
   keep_refused e n = record { answer-is = e; next-is = sym (kept-refused l name A (λ z. n (e ∙ z))) }
 
-  pub keep_unknown : lookup_of l.set ≡ Unknown → KeepCall l name A 1 l
+  pub keep_unknown : lookup_of l.set ≡ None → KeepCall l name A 1 l
   unfolding keep_answer keep_rows answer
   keep_unknown h = keep_refused (rw (is-unknown l.set h) refl) (λ z. omega (arith, z))
 
   -- an accepted keeping, with the sum under the part of the key that it uses
-  pub kept-call : {c : ℕ} {sum : List ℕ} (p : Parameters) (n : ℕ) (l' : Ledger) → lookup_of l.set ≡ Known p → n ≡ p.key / 8 → keep_answer l name (length A) ≡ 0 →
+  pub kept-call : {c : ℕ} {sum : List ℕ} (p : Parameters) (n : ℕ) (l' : Ledger) → lookup_of l.set ≡ Some p → n ≡ p.key / 8 → keep_answer l name (length A) ≡ 0 →
       sum ≡ data_hash (cipher (take n l.key)) p.tau p.capacity A → c ≡ keep_charge l.heartbeats (length A) → l' ≡ keeping l name sum c → l' ≡ kept_ledger l name A
   unfolding sum_of
   kept-call p n l' known m z s c f =

@@ -1,13 +1,15 @@
 -- The code's ledger as the definitions' one, field by field, and what its calls promise.
 -- Assumes nothing.
-use Rattle.std.specs.Prelude.{List, map, ℕ}
+use Rattle.std.specs.Prelude.{List, map, ℕ, Result, Ok, Err}
+use Rattle.answers.specs.declared.refusals.Refusal.{Refusal}
+use Rattle.answers.specs.Refusals.{number_of}
 use Rattle.answers.specs.Rows.{answer, first_of}
 use Rattle.cba_mode.specs.Sets.{tag_bytes}
 use Rattle.cba_rules.specs.Checks.{message_rows}
 use Rattle.cba_steps.specs.declared.parameters.Parameters.{Parameters}
 use Rattle.ledger.specs.declared.ledger.Heading.{Heading}
 use Rattle.ledger.specs.declared.ledger.Ledger.{Ledger}
-use Rattle.ledger_rules.specs.Ledger.{nonce_rows, stale, charge_by, spent, own_rows, LedgerCall, KeepCall, CarryCall}
+use Rattle.ledger_rules.specs.Ledger.{nonce_rows, stale, charge_by, spent, own_rows, Source, LedgerCall, KeepCall, CarryCall}
 use Rattle.ledger_rules.specs.Ledger.Source.{given, named}
 use Rattle.ledger_rules.specs.Ledger as rules
 
@@ -53,3 +55,16 @@ RanKeeping l name A r l' = KeepCall (value_of l) name A r (value_of l')
 -- a carrying: its answer r and the next ledger l'
 abbrev pub RanCarrying : Ledger → ℕ → Ledger → Type 0
 RanCarrying l r l' = CarryCall (value_of l) r (value_of l')
+
+-- ---- the same of the next ledger, or the refusal
+
+-- the ledger after it: the next one, or as it was
+abbrev pub after : Ledger → Result Ledger Refusal → Ledger
+after l (Ok l') = l'
+after l (Err r) = l
+
+abbrev pub Tried : Ledger → List ℕ → Source → List ℕ → List ℕ → Result Ledger Refusal → List ℕ → Type 0
+Tried l N S M out r out' = LedgerCall (value_of l) N S M out (number_of r) (value_of (after l r)) out'
+
+abbrev pub TriedKeeping : Ledger → ℕ → List ℕ → Result Ledger Refusal → Type 0
+TriedKeeping l name A r = KeepCall (value_of l) name A (number_of r) (value_of (after l r))

@@ -1,62 +1,85 @@
-// What a ledger checks: the nonce's start, nonces as numbers, and the charge against the capacity.
-ghost use Rattle.std.specs.Prelude.{◌≡◌, not, ◌+◌, ◌/◌, ◌^◌, ◌≤◌, ltb, length};
+// What a ledger checks: the nonce's start, the nonces as numbers, and the charge against the capacity.
+ghost use Rattle.std.specs.Prelude.{◌≡◌, not, IfOk, ◌+◌, ◌/◌, ◌^◌, ◌≤◌, ltb, leb};
 ghost use Rattle.octets.specs.Numbers.{number};
-ghost use Rattle.ledger_rules.specs.Ledger.{console_of, charge_by};
+ghost use Rattle.answers.specs.Rows.{answer};
+ghost use Rattle.answers.specs.Refusals.{number_of};
+ghost use Rattle.ledger_rules.specs.Ledger.{nonce_rows, console_of, charge_by};
+ghost use Rattle.ledger.specs.Values.{first_checks};
 
-// The console number that a nonce begins with.
-pub fn console_of(nonce: &[u8]) -> u16
-    requires { length nonce.now ≡ 12 }
+use answers::Refusal;
+use cba_steps::Parameters;
+use plain::{message_check, start_check};
+
+// The console number that a nonce begins with, big-endian.
+fn console_of(nonce: &[u8; 12]) -> u16
     ensures { result ≡ console_of nonce.now }
 {
-    (nonce[0] as u16) * 256 + nonce[1] as u16
+    let [high, low, ..] = *nonce;
+    u16::from_be_bytes([high, low])
 }
 
-// Whether a nonce is above another, as big-endian numbers.
-pub fn above(nonce: &[u8], last: &[u8]) -> bool
-    requires { length nonce.now ≡ length last.now }
-    ensures { result ≡ ltb (number last.now) (number nonce.now) }
+// Whether a nonce is not above another: big-endian numbers of one length have the order of their
+// bytes.
+pub(crate) fn is_not_above(nonce: &[u8; 12], last: &[u8; 12]) -> bool
+    ensures { result ≡ leb (number nonce.now) (number last.now) }
 {
-    let mut above = false;
-    let mut same = true;
-    let mut i = 0;
-    while i < nonce.len() {
-        let x = nonce[i];
-        let y = last[i];
-        if same {
-            above = x > y;
-            same = x == y;
-        }
-        i += 1;
-    }
-    above
+    nonce <= last
 }
 
-// The blocks of so many bytes, without the sum n + 15, which might not fit.
+// 3 and 12: the nonce, where it has its length and begins with the console's number. A receiver's check
+// is alike, and stays one of its own: see there.
+fn nonce_checks(console: u16, nonce: &[u8]) -> Result<&[u8; 12], Refusal>
+    ensures answer_value { number_of result ≡ answer (nonce_rows console nonce.now) }
+    ensures nonce_value { IfOk result (λ n. n.now ≡ nonce.now) }
+{
+    let Some(whole) = nonce.as_array() else {
+        return Err(Refusal::Nonce);
+    };
+    start_check(console as u64, console_of(whole) as u64)?;
+    Ok(whole)
+}
+
+// The checks of a sealing after the set's and before the ledger's own, where source is what its data
+// are answered.
+#[tactic(auto, using(answers::proofs::RefusalLaws::refusal_not_zero), unfolding(answers::specs::Rows::first_of))]
+pub(crate) fn first_checks(
+    console: u16,
+    p: Parameters,
+    nonce: &[u8],
+    source: Result<(), Refusal>,
+    message: usize,
+    room: usize,
+) -> Result<&[u8; 12], Refusal>
+    ensures answer_value { number_of result ≡ first_checks console p nonce.now (number_of source) message room }
+    ensures nonce_value { IfOk result (λ n. n.now ≡ nonce.now) }
+{
+    let whole = nonce_checks(console, nonce)?;
+    source?;
+    message_check(p, message, room)?;
+    Ok(whole)
+}
+
+// The blocks of so many bytes.
 fn blocks(n: usize) -> u64
     ensures { result ≡ (n + 15) / 16 }
 {
-    (n / 16 + (n % 16 + 15) / 16) as u64
+    n.div_ceil(16) as u64
 }
 
 // The blocks of data and message; where heartbeats are charged, at least one.
-pub fn charge(heartbeats: bool, ad: usize, message: usize) -> u64
+pub(crate) fn charge(heartbeats: bool, ad: usize, message: usize) -> u64
     ensures { result ≡ charge_by heartbeats ad message }
 {
-    let n = blocks(ad) + blocks(message);
-    if n != 0 {
-        return n;
-    }
-    heartbeats as u64
+    (blocks(ad) + blocks(message)).max(heartbeats as u64)
 }
 
-// Whether a charge goes into what is left of the capacity. The sum is not formed: it might not fit.
-pub fn fits(total: u64, charge: u64, capacity: u8) -> bool
+// Whether a charge goes into what is left of the capacity.
+pub(crate) fn fits(total: u64, charge: u64, capacity: u8) -> bool
     requires { capacity ≤ 48 }
     ensures { result ≡ not (ltb (2 ^ capacity) (total + charge)) }
 {
-    let most = 1u64 << capacity;
-    if total > most {
+    let Some(sum) = total.checked_add(charge) else {
         return false;
-    }
-    charge <= most - total
+    };
+    sum <= 1 << capacity
 }

@@ -5,6 +5,7 @@
 mod carrying;
 mod checks;
 mod headings;
+mod known;
 mod ledger;
 
 pub use ledger::{Heading, Ledger, NOTHING, Outcome, make, seal_in_place};

@@ -1,66 +1,45 @@
 // What a line has: the call's word, its answer, the ledger's fields, and an output.
-use ledger::{Heading, Ledger};
-use script::{print_bytes, print_nothing, print_number};
+use crate::call::Call;
+use ledger::{Heading, Ledger, Outcome};
+use script::{print_bytes, print_flag, print_nothing, print_number, print_output};
 
-// The word of a record's kind.
-pub fn print_call(rt: &impl Print, kind: u8) {
-    if kind == 0 {
-        show::text(rt, b"make");
-    } else if kind == 1 {
-        show::text(rt, b"put -");
-    } else if kind == 3 {
-        show::text(rt, b"lent");
-    } else if kind == 4 {
-        show::text(rt, b"hold -");
-    } else if kind == 5 {
-        show::text(rt, b"keep");
-    } else if kind == 6 {
-        show::text(rt, b"name");
-    } else if kind == 7 {
-        show::text(rt, b"carry");
-    } else {
-        show::text(rt, b"seal");
-    }
-}
-
-fn print_flag(rt: &impl Print, kept: bool) {
-    if kept {
-        show::text(rt, b" 1:");
-    } else {
-        show::text(rt, b" 0:");
-    }
-}
-
-fn print_heading(rt: &impl Print, h: Heading) {
-    let sum = h.sum;
-    let zeros = [0u8; 16];
-    let blank = octets::same(&sum, &zeros);
-    if !h.kept && blank {
+fn print_heading(rt: &impl Print, h: &Heading) {
+    if !h.kept && h.sum == [0; 16] {
         print_nothing(rt);
     } else {
         print_flag(rt, h.kept);
-        show::bytes(rt, &sum);
+        show::text(rt, b":");
+        show::bytes(rt, &h.sum);
     }
 }
 
-fn print_headings(rt: &impl Print, l: Ledger) {
-    let mut i = 0;
-    while i < 8 {
-        let h = l.headings[i];
+fn print_headings(rt: &impl Print, headings: &[Heading]) {
+    for h in headings {
         print_heading(rt, h);
-        i += 1;
     }
 }
 
-pub fn print_ledger(rt: &impl Print, l: Ledger) {
-    let key = l.key;
-    let last = l.last;
+pub fn print_ledger(rt: &impl Print, l: &Ledger) {
     print_number(rt, l.set as u64);
-    print_bytes(rt, &key);
+    print_bytes(rt, &l.key);
     print_number(rt, l.console as u64);
     print_number(rt, l.total);
-    print_number(rt, l.heartbeats as u64);
-    print_number(rt, l.begun as u64);
-    print_bytes(rt, &last);
-    print_headings(rt, l);
+    print_flag(rt, l.heartbeats);
+    print_flag(rt, l.begun);
+    print_bytes(rt, &l.last);
+    print_headings(rt, &l.headings);
+}
+
+// A call's answer and the ledger after it.
+pub fn print_outcome(rt: &impl Print, call: Call, s: &Outcome) {
+    let _ = rt.print(call);
+    print_number(rt, answers::number_of(s.answer) as u64);
+    print_ledger(rt, &s.ledger);
+}
+
+// And the output of a sealing.
+pub fn print_sealed(rt: &impl Print, call: Call, s: &Outcome, out: &[u8]) {
+    print_outcome(rt, call, s);
+    print_output(rt, out);
+    show::line_end(rt);
 }

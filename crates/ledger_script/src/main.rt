@@ -22,159 +22,120 @@
 // ledger written a second time, which ./test makes again and compares.
 #![tactic(auto)]
 
+mod call;
 mod lines;
 
-ghost use Rattle.std.specs.Prelude.{◌≡◌, ◌+◌, ◌*◌, length};
+ghost use Rattle.std.specs.Prelude.{◌≡◌, length};
+ghost use Rattle.answers.specs.Refusals.{number_of};
 ghost use Rattle.ledger_rules.specs.Ledger.{carried_ledger};
 ghost use Rattle.ledger.specs.Values.{value_of, Ran};
-ghost use Rattle.script.specs.Records.{part};
 ghost use Rattle.ledger_script.specs.Records.{made_by, put_by, held_by, kept_by, sealed_by, named_by};
 
-use crate::lines::{print_call, print_ledger};
+use crate::call::Call;
+use crate::lines::{print_ledger, print_outcome, print_sealed};
 use ledger::{Heading, Ledger, NOTHING, Outcome};
-use script::{fill, key_of, least, length, long_number, number, print_number, print_output};
-use std::io::Read;
+use script::{Record, each_record, fill};
 
-fn short_number(a: u8, b: u8) -> u16
-    ensures { result ≡ a * 256 + b }
-{
-    (a as u16) * 256 + b as u16
+// What the calls' strings are made in.
+#[derive(Drop)]
+struct Buffers<'a> {
+    ad: &'a mut [u8],
+    message: &'a mut [u8],
+    out: &'a mut [u8],
 }
 
-fn made(rt: &impl Print, r: [u8; 64]) -> Ledger
-    ensures { value_of result ≡ made_by r }
+fn made(rt: &impl Print, r: &Record) -> Ledger
+    ensures { value_of result ≡ made_by r.now.bytes }
 {
-    let end = 8 + least(r[7] as usize, 56);
-    let set = number(r[1], r[2], r[3], r[4]);
-    let console = short_number(r[5], r[6]);
-    let m = ledger::make(set, &r[8..end], console);
-    let l = m.ledger;
-    print_call(rt, 0);
-    print_number(rt, m.answer as u64);
-    print_ledger(rt, l);
+    let m = ledger::make(r.number(1), r.string(8, r.byte(7)), r.short_number(5));
+    print_outcome(rt, Call::Make, &m);
     show::line_end(rt);
-    l
+    m.ledger
 }
 
-// The last nonce of a record `put`, and the sum of a record `hold`.
-fn last_of(r: [u8; 64]) -> [u8; 12]
-    ensures { result ≡ part r 48 60 }
+fn hand_made(r: &Record) -> Ledger
+    ensures { value_of result ≡ put_by r.now.bytes }
 {
-    let mut last = [0u8; 12];
-    octets::put(&mut last, &r[48..60]);
-    last
-}
-
-fn sum_of(r: [u8; 64]) -> [u8; 16]
-    ensures { result ≡ part r 3 19 }
-{
-    let mut sum = [0u8; 16];
-    octets::put(&mut sum, &r[3..19]);
-    sum
-}
-
-fn hand_made(r: [u8; 64]) -> Ledger
-    ensures { value_of result ≡ put_by r }
-{
-    let high = number(r[39], r[40], r[41], r[42]);
-    let low = number(r[43], r[44], r[45], r[46]);
     Ledger {
-        set: number(r[1], r[2], r[3], r[4]),
-        key: key_of(r),
-        console: short_number(r[37], r[38]),
-        total: long_number(high, low),
-        heartbeats: r[60] != 0,
-        begun: r[47] != 0,
-        last: last_of(r),
+        set: r.number(1),
+        key: r.part(5),
+        console: r.short_number(37),
+        total: r.long_number(39),
+        heartbeats: r.flag(60),
+        begun: r.flag(47),
+        last: r.part(48),
         headings: [NOTHING; 8],
     }
 }
 
-fn put(rt: &impl Print, r: [u8; 64]) -> Ledger
-    ensures { value_of result ≡ put_by r }
-{
-    let l = hand_made(r);
-    print_call(rt, 1);
+// The line of a ledger that a record gives, which answers nothing.
+fn print_given(rt: &impl Print, call: Call, l: &Ledger) {
+    let _ = rt.print(call);
     print_ledger(rt, l);
     show::line_end(rt);
+}
+
+fn put(rt: &impl Print, r: &Record) -> Ledger
+    ensures { value_of result ≡ put_by r.now.bytes }
+{
+    let l = hand_made(r);
+    print_given(rt, Call::Put, &l);
     l
 }
 
-fn hold(rt: &impl Print, l: Ledger, r: [u8; 64]) -> Ledger
-    ensures { value_of result ≡ held_by (value_of l) r }
+fn hold(rt: &impl Print, l: Ledger, r: &Record) -> Ledger
+    ensures { value_of result ≡ held_by (value_of l) r.now.bytes }
 {
-    let i = least(r[1] as usize, 7);
-    let sum = sum_of(r);
+    let i = (r.byte(1) as usize).min(7);
     let mut after = l;
     after.headings[i] = Heading {
-        kept: r[2] != 0,
-        sum: sum,
+        kept: r.flag(2),
+        sum: r.part(3),
     };
-    print_call(rt, 4);
-    print_ledger(rt, after);
-    show::line_end(rt);
+    print_given(rt, Call::Hold, &after);
     after
 }
 
-// A call's answer and the ledger after it.
-fn print_outcome(rt: &impl Print, kind: u8, s: Outcome) {
-    print_call(rt, kind);
-    print_number(rt, s.answer as u64);
-    let l = s.ledger;
-    print_ledger(rt, l);
-}
-
-fn print_sealed(rt: &impl Print, kind: u8, s: Outcome, out: &[u8]) {
-    print_outcome(rt, kind, s);
-    print_output(rt, out);
-    show::line_end(rt);
-}
-
 // A keeping of data that have the record's length.
-fn keep(rt: &impl Print, l: Ledger, r: [u8; 64], ad: &mut [u8]) -> Ledger
-    ensures { value_of result ≡ kept_by (value_of l) r (length ad.old) }
+fn keep(rt: &impl Print, l: Ledger, r: &Record, ad: &mut [u8]) -> Ledger
+    ensures { value_of result ≡ kept_by (value_of l) r.now.bytes (length ad.old) }
 {
-    fill(ad, r[8]);
-    let name = number(r[1], r[2], r[3], r[4]);
-    let s = l.keep(name, ad);
-    print_outcome(rt, 5, s);
+    fill(ad, r.byte(8));
+    let s = l.keep(r.number(1), ad);
+    print_outcome(rt, Call::Keep, &s);
     show::line_end(rt);
-    let next = s.ledger;
-    next
-}
-
-// The same in a buffer, of which it takes as much as the record says.
-fn keep_in(rt: &impl Print, l: Ledger, r: [u8; 64], ad: &mut [u8]) -> Ledger {
-    let h = least(length(r[5], r[6], r[7]), ad.len());
-    keep(rt, l, r, &mut ad[..h])
+    s.ledger
 }
 
 fn carry(rt: &impl Print, l: Ledger) -> Ledger
     ensures { value_of result ≡ carried_ledger (value_of l) }
 {
     let s = l.carry_over();
-    print_outcome(rt, 7, s);
+    print_outcome(rt, Call::Carry, &s);
     show::line_end(rt);
-    let next = s.ledger;
-    next
+    s.ledger
 }
 
 // Lends its ledger, and gives back what the call by value does.
 fn seal_lent(mut l: Ledger, nonce: &[u8], ad: &[u8], message: &[u8], out: &mut [u8]) -> Outcome
-    ensures { Ran l nonce.now ad.now message.now out.old result.answer result.ledger out.new }
+    ensures { Ran l nonce.now ad.now message.now out.old (number_of result.answer) result.ledger out.new }
 {
     let answer = ledger::seal_in_place(&mut l, nonce, ad, message, out);
-    Outcome {
-        answer: answer,
-        ledger: l,
-    }
+    Outcome { answer, ledger: l }
 }
 
-// The call that the record's kind says. Both promise the same.
-fn seal_by(kind: u8, l: Ledger, nonce: &[u8], ad: &[u8], message: &[u8], out: &mut [u8]) -> Outcome
-    ensures { Ran l nonce.now ad.now message.now out.old result.answer result.ledger out.new }
+// The call by value, or by a ledger that is lent. Both promise the same.
+fn seal_by(
+    call: Call,
+    l: Ledger,
+    nonce: &[u8],
+    ad: &[u8],
+    message: &[u8],
+    out: &mut [u8],
+) -> Outcome
+    ensures { Ran l nonce.now ad.now message.now out.old (number_of result.answer) result.ledger out.new }
 {
-    if kind == 3 {
+    if call == Call::Lent {
         return seal_lent(l, nonce, ad, message, out);
     }
     l.sealed(nonce, ad, message, out)
@@ -184,110 +145,74 @@ fn seal_by(kind: u8, l: Ledger, nonce: &[u8], ad: &[u8], message: &[u8], out: &m
 fn seal(
     rt: &impl Print,
     l: Ledger,
-    r: [u8; 64],
+    r: &Record,
     ad: &mut [u8],
     message: &mut [u8],
     out: &mut [u8],
 ) -> Ledger
-    ensures { value_of result ≡ sealed_by (value_of l) r (length ad.old) (length message.old) (length out.old) }
+    ensures { value_of result ≡ sealed_by (value_of l) r.now.bytes (length ad.old) (length message.old) (length out.old) }
 {
-    fill(ad, r[11]);
-    fill(message, r[12]);
+    fill(ad, r.byte(11));
+    fill(message, r.byte(12));
     fill(out, 165);
-    let end = 13 + least(r[1] as usize, 51);
-    let kind = r[0];
-    let s = seal_by(kind, l, &r[13..end], ad, message, out);
-    print_sealed(rt, kind, s, out);
-    let next = s.ledger;
-    next
-}
-
-// The same in buffers, of which it takes as much as the record says.
-fn seal_in(
-    rt: &impl Print,
-    l: Ledger,
-    r: [u8; 64],
-    ad: &mut [u8],
-    message: &mut [u8],
-    out: &mut [u8],
-) -> Ledger {
-    let h = least(length(r[2], r[3], r[4]), ad.len());
-    let t = least(length(r[5], r[6], r[7]), message.len());
-    let o = least(length(r[8], r[9], r[10]), out.len());
-    seal(rt, l, r, &mut ad[..h], &mut message[..t], &mut out[..o])
+    let call = Call::from(r.byte(0));
+    let s = seal_by(call, l, r.string(13, r.byte(1)), ad, message, out);
+    print_sealed(rt, call, &s, out);
+    s.ledger
 }
 
 // A sealing by name of strings that have the record's lengths.
-fn seal_named(rt: &impl Print, l: Ledger, r: [u8; 64], message: &mut [u8], out: &mut [u8]) -> Ledger
-    ensures { value_of result ≡ named_by (value_of l) r (length message.old) (length out.old) }
+fn seal_named(rt: &impl Print, l: Ledger, r: &Record, message: &mut [u8], out: &mut [u8]) -> Ledger
+    ensures { value_of result ≡ named_by (value_of l) r.now.bytes (length message.old) (length out.old) }
 {
-    fill(message, r[12]);
+    fill(message, r.byte(12));
     fill(out, 165);
-    let end = 13 + least(r[5] as usize, 51);
-    let name = number(r[1], r[2], r[3], r[4]);
-    let s = l.sealed_by_name(name, &r[13..end], message, out);
-    print_sealed(rt, 6, s, out);
-    let next = s.ledger;
-    next
+    let s = l.sealed_by_name(r.number(1), r.string(13, r.byte(5)), message, out);
+    print_sealed(rt, Call::Name, &s, out);
+    s.ledger
 }
 
-fn seal_named_in(
-    rt: &impl Print,
-    l: Ledger,
-    r: [u8; 64],
-    message: &mut [u8],
-    out: &mut [u8],
-) -> Ledger {
-    let t = least(length(r[6], r[7], r[8]), message.len());
-    let o = least(length(r[9], r[10], r[11]), out.len());
-    seal_named(rt, l, r, &mut message[..t], &mut out[..o])
-}
-
-fn step(
-    rt: &impl Print,
-    l: Ledger,
-    r: [u8; 64],
-    ad: &mut [u8],
-    message: &mut [u8],
-    out: &mut [u8],
-) -> Ledger {
-    if r[0] == 0 {
-        return made(rt, r);
-    }
-    if r[0] == 1 {
-        return put(rt, r);
-    }
-    if r[0] == 4 {
-        return hold(rt, l, r);
-    }
-    if r[0] == 5 {
-        return keep_in(rt, l, r, ad);
-    }
-    if r[0] == 6 {
-        return seal_named_in(rt, l, r, message, out);
-    }
-    if r[0] == 7 {
-        return carry(rt, l);
-    }
-    seal_in(rt, l, r, ad, message, out)
-}
-
-fn run(rt: &impl Print, input: &mut impl Read, ad: &mut [u8], message: &mut [u8], out: &mut [u8]) {
-    let mut l = hand_made([0; 64]);
-    let mut turns = 0u32;
-    while turns < 1000000 {
-        let mut r = [0u8; 64];
-        if input.read_exact(&mut r).is_err() {
-            return;
+// The call of a record, in as much of the buffers as it says.
+fn step(rt: &impl Print, l: Ledger, r: &Record, b: &mut Buffers) -> Ledger {
+    match Call::from(r.byte(0)) {
+        Call::Make => made(rt, r),
+        Call::Put => put(rt, r),
+        Call::Hold => hold(rt, l, r),
+        Call::Keep => {
+            let h = r.length(5).min(b.ad.len());
+            keep(rt, l, r, &mut b.ad[..h])
         }
-        l = step(rt, l, r, ad, message, out);
-        turns += 1;
+        Call::Name => {
+            let t = r.length(6).min(b.message.len());
+            let o = r.length(9).min(b.out.len());
+            seal_named(rt, l, r, &mut b.message[..t], &mut b.out[..o])
+        }
+        Call::Carry => carry(rt, l),
+        Call::Seal | Call::Lent => {
+            let h = r.length(2).min(b.ad.len());
+            let t = r.length(5).min(b.message.len());
+            let o = r.length(8).min(b.out.len());
+            seal(
+                rt,
+                l,
+                r,
+                &mut b.ad[..h],
+                &mut b.message[..t],
+                &mut b.out[..o],
+            )
+        }
     }
 }
 
+// The other script program has its like: what they share is `each_record`.
 fn main(rt: HostRuntime) {
-    let mut ad = [0u8; 8192];
-    let mut message = [0u8; 66000];
-    let mut out = [0u8; 66000];
-    run(&rt, &mut rt.stdin(), &mut ad, &mut message, &mut out);
+    let mut b = Buffers {
+        ad: &mut [0u8; 8192],
+        message: &mut [0u8; 66000],
+        out: &mut [0u8; 66000],
+    };
+    let mut l = hand_made(&Record { bytes: [0; 64] });
+    each_record(&mut rt.stdin(), |_, r| {
+        l = step(&rt, l, r, &mut b);
+    });
 }

@@ -1,21 +1,18 @@
--- A comparison that gathers every difference, and zeros.
+-- A comparison that gathers every difference.
 -- Assumes nothing.
 use mathlib.Core.Path.{◌≡◌, refl, sym, ap, ap₂, ◌∙◌}
 use mathlib.Core.Bool.{Bool, true, false, ◌&&◌}
+use mathlib.Core.Logic.{◌⊎◌}
 use mathlib.Core.List.{List, [], ◌∷◌}
 use Prim.Native.Nat.{ℕ, zero, suc, ◌+◌, ◌<◌, ◌≤◌}
 use native.Mathlib.Numerals.{add-one}
 use native.Mathlib.Omega.{arith}
 use lib.Bits.{bit_or, bit_xor, or_add_and, xor_add_and, and_le_l, and_le_r, or_zero_l, xor_self}
 use lib.Dec.{eqb}
-use lib.ListN.{length, take, get_or, replicate, length-replicate, get_or-replicate}
+use lib.ListN.{length, take, get_or}
 use lib.Seq.{take_all}
 use borrow.Author.Tests.{eqb-true, eqb-false, ne_eqb}
-use Rattle.octets.specs.Strings.{table, eqs}
-use Rattle.octets.proofs.Strings.{table_is}
-
-pub zeros : (n : ℕ) → table (λ k. 0) n ≡ replicate n 0
-zeros n = table_is _ n (replicate n 0) (length-replicate n 0) (λ k l. sym (get_or-replicate n k 0 0 l))
+use Rattle.octets.specs.Strings.{eqs}
 
 -- d and x ⊕ y have no bit: d is 0, and x is y
 none_left : (d z : ℕ) → bit_or d z ≡ 0 → d ≡ 0
@@ -35,13 +32,30 @@ gathered d x y = go (eqb d 0) (eqb x y) refl refl
     go true false e f = ne_eqb _ 0 (λ z. eqb-false x y f (none_differ x y (none_right d (bit_xor x y) z)))
     go false q e f = ne_eqb _ 0 (λ z. eqb-false d 0 e (none_left d (bit_xor x y) z))
 
+and_assoc : (p q r : Bool) → p && (q && r) ≡ (p && q) && r
+and_assoc true q r = refl
+and_assoc false q r = refl
+
+-- One byte of both taken off, and their difference gathered: what w is stays.
+pub one_more : {w : Bool} {a b s t : List ℕ} (d x y : ℕ) → a ≡ x ∷ s → b ≡ y ∷ t → w ≡ (eqb d 0 && eqs a b) →
+    w ≡ (eqb (bit_or d (bit_xor x y)) 0 && eqs s t)
+one_more {s = s} {t = t} d x y p q h =
+    h ∙ ap₂ (λ (u v : List ℕ). eqb d 0 && eqs u v) p q
+    ∙ and_assoc (eqb d 0) (eqb x y) (eqs s t)
+    ∙ ap (λ (z : Bool). z && eqs s t) (sym (gathered d x y))
+
 and-true : (p : Bool) → p && true ≡ p
 and-true true = refl
 and-true false = refl
 
-and_assoc : (p q r : Bool) → p && (q && r) ≡ (p && q) && r
-and_assoc true q r = refl
-and_assoc false q r = refl
+-- Nothing is left of two strings of one length.
+pub none_more : {w : Bool} (a b : List ℕ) (d : ℕ) → length a ≡ length b → (length a ≡ 0) ⊎ (length b ≡ 0) →
+    w ≡ (eqb d 0 && eqs a b) → eqb d 0 ≡ w
+none_more [] [] d e z h = sym (h ∙ and-true (eqb d 0))
+none_more [] (y ∷ t) d e z h = absurd (grind arith)
+none_more (x ∷ s) b d e z h = absurd (grind arith)
+
+-- The same by how many bytes were looked at.
 
 -- one byte more of both
 eqs-more : (a b : List ℕ) (i : ℕ) → i < length a → length a ≡ length b →

@@ -9,10 +9,8 @@ pub fn same(a: &[u8], b: &[u8]) -> bool
     ensures { result ≡ eqs a.now b.now }
 {
     let mut differ = 0u8;
-    let mut i = 0;
-    while i < a.len() {
-        differ |= a[i] ^ b[i];
-        i += 1;
+    for (x, y) in a.iter().zip(b) {
+        differ |= x ^ y;
     }
     differ == 0
 }
@@ -22,9 +20,5 @@ pub fn clear(out: &mut [u8], n: usize)
     requires { n ≤ length out.old }
     ensures { out.new ≡ replicate n 0 ++ drop n out.old }
 {
-    let mut i = 0;
-    while i < n {
-        out[i] = 0;
-        i += 1;
-    }
+    out[..n].fill(0);
 }

@@ -1,10 +1,15 @@
 // The checks on lengths, in the groups that several calls share: each answers as its rows do. A
-// call puts its groups together by first_of, in the order of its rows.
-ghost use Rattle.std.specs.Prelude.{◌≡◌, [], ◌∷◌, ◌/◌};
-ghost use Rattle.answers.specs.Rows.{answer, first_of};
-ghost use Rattle.cba_mode.specs.Sets.{tag_bytes};
-ghost use Rattle.cba_rules.specs.Checks.{bad_key, bad_nonce, bad_start, long_data, message_rows, ciphertext_rows};
+// call puts its groups together by `?`, in the order of its rows.
+#![tactic(auto, unfolding(answers::specs::Rows::answer))]
 
+ghost use Rattle.std.specs.Prelude.{◌≡◌, [], ◌∷◌, ◌/◌};
+ghost use Rattle.answers.specs.Rows.{answer};
+ghost use Rattle.answers.specs.Refusals.{number_of};
+ghost use Rattle.cba_mode.specs.Sets.{tag_bytes};
+ghost use Rattle.cba_rules.specs.Checks.{bad_key, bad_nonce, bad_start, long_data, key_rows, message_rows, ciphertext_rows};
+
+use crate::sets::lookup;
+use answers::Refusal;
 use cba_steps::Parameters;
 
 const NONCE: usize = 12;
@@ -13,82 +18,80 @@ pub const MOST_DATA: usize = 4096;
 
 const MOST_MESSAGE: usize = 65536;
 
-// The first of two answers that refuses, or 0.
-pub fn first_of(a: u32, b: u32) -> u32
-    ensures { result ≡ first_of a b }
-{
-    if a == 0 {
-        return b;
-    }
-    a
-}
-
-// 2, for a set that is known.
-pub fn key_check(p: Parameters, key: usize) -> u32
-    ensures { result ≡ answer (bad_key (p.key / 8) key ∷ []) }
+// The key of a set that is known.
+pub fn key_check(p: Parameters, key: usize) -> Result<(), Refusal>
+    ensures { number_of result ≡ answer (bad_key (p.key / 8) key ∷ []) }
 {
     if key != p.key_bytes() {
-        return 2;
+        return Err(Refusal::Key);
     }
-    0
+    Ok(())
 }
 
-// 3.
-pub fn nonce_check(nonce: usize) -> u32
-    ensures { result ≡ answer (bad_nonce nonce ∷ []) }
+// The set and the key of a making: 1 and 2.
+pub fn set_key_checks(set: u32, key: usize) -> Result<(), Refusal>
+    ensures { number_of result ≡ answer (key_rows set key) }
+{
+    let Some(p) = lookup(set) else {
+        return Err(Refusal::Set);
+    };
+    key_check(p, key)
+}
+
+pub fn nonce_check(nonce: usize) -> Result<(), Refusal>
+    ensures { number_of result ≡ answer (bad_nonce nonce ∷ []) }
 {
     if nonce != NONCE {
-        return 3;
+        return Err(Refusal::Nonce);
     }
-    0
+    Ok(())
 }
 
-// 12, by the number that a nonce begins with.
-pub fn start_check(its: u64, start: u64) -> u32
-    ensures { result ≡ answer (bad_start its start ∷ []) }
+// The number that a nonce begins with.
+pub fn start_check(its: u64, start: u64) -> Result<(), Refusal>
+    ensures { number_of result ≡ answer (bad_start its start ∷ []) }
 {
     if start != its {
-        return 12;
+        return Err(Refusal::Console);
     }
-    0
+    Ok(())
 }
 
-// 4.
-pub fn ad_check(ad: usize) -> u32
-    ensures { result ≡ answer (long_data ad ∷ []) }
+pub fn ad_check(ad: usize) -> Result<(), Refusal>
+    ensures { number_of result ≡ answer (long_data ad ∷ []) }
 {
     if ad > MOST_DATA {
-        return 4;
+        return Err(Refusal::Data);
     }
-    0
+    Ok(())
 }
 
-// 5 and 7 of a sealing.
-pub fn message_check(p: Parameters, message: usize, room: usize) -> u32
-    ensures { result ≡ answer (message_rows (tag_bytes p.tau) message room) }
+// The text and the room of a sealing.
+pub fn message_check(p: Parameters, message: usize, room: usize) -> Result<(), Refusal>
+    ensures { number_of result ≡ answer (message_rows (tag_bytes p.tau) message room) }
 {
     if message > MOST_MESSAGE {
-        return 5;
+        return Err(Refusal::Text);
     }
     if room < message + p.tag_bytes() {
-        return 7;
+        return Err(Refusal::Buffer);
     }
-    0
+    Ok(())
 }
 
-// 5, 6 and 7 of an opening.
-pub fn ciphertext_check(p: Parameters, ciphertext: usize, room: usize) -> u32
-    ensures { result ≡ answer (ciphertext_rows (tag_bytes p.tau) ciphertext room) }
+// The text and the room of an opening.
+pub fn ciphertext_check(p: Parameters, ciphertext: usize, room: usize) -> Result<(), Refusal>
+    ensures { number_of result ≡ answer (ciphertext_rows (tag_bytes p.tau) ciphertext room) }
 {
     let t = p.tag_bytes();
     if ciphertext > MOST_MESSAGE + t {
-        return 5;
+        return Err(Refusal::Text);
     }
     if ciphertext < t {
-        return 6;
+        return Err(Refusal::Stub);
     }
     if room < ciphertext - t {
-        return 7;
+        return Err(Refusal::Buffer);
     }
-    0
+    Ok(())
 }

@@ -8,9 +8,9 @@ mod seal;
 mod sets;
 
 pub use checks::{
-    MOST_DATA, ad_check, ciphertext_check, first_of, key_check, message_check, nonce_check,
+    MOST_DATA, ad_check, ciphertext_check, key_check, message_check, nonce_check, set_key_checks,
     start_check,
 };
 pub use open::open_plain;
 pub use seal::seal_plain;
-pub use sets::{Set, lookup};
+pub use sets::lookup;

@@ -1,19 +1,21 @@
 // Plain opening.
 ghost use Rattle.std.specs.Prelude.{◌≡◌, ◌-◌, ◌/◌};
 ghost use Rattle.answers.specs.Rows.{answer};
+ghost use Rattle.answers.specs.Refusals.{number_of};
 ghost use Rattle.cba_mode.specs.Sets.{tag_bytes};
 ghost use Rattle.cba_rules.specs.Checks.{open_checks};
 ghost use Rattle.cba_rules.specs.Refusals.{OpenCall};
-ghost use Rattle.plain.specs.declared.sets.Set.TheVariants.{Known};
-ghost use Rattle.plain.specs.Lookup.{lookup_of};
 ghost use Rattle.plain.specs.Accepted.{Openable, OpenedBy};
 
-use crate::checks::{ad_check, ciphertext_check, first_of, key_check, nonce_check};
-use crate::sets::{Set, lookup};
+use crate::checks::{ad_check, ciphertext_check, key_check, nonce_check};
+use crate::sets::lookup;
+use aes::Encryption;
+use answers::Refusal;
 use cba_opening::dec;
 use cba_steps::{Parameters, data_hash};
 
 // The checks after the set's, in their order.
+#[tactic(auto, using(answers::proofs::RefusalLaws::refusal_not_zero), unfolding(answers::specs::Rows::answer))]
 fn open_checks(
     p: Parameters,
     key: usize,
@@ -21,17 +23,18 @@ fn open_checks(
     ad: usize,
     ciphertext: usize,
     room: usize,
-) -> u32
-    ensures { result ≡ answer (open_checks (p.key / 8) (tag_bytes p.tau) key nonce ad ciphertext room) }
+) -> Result<(), Refusal>
+    ensures { number_of result ≡ answer (open_checks (p.key / 8) (tag_bytes p.tau) key nonce ad ciphertext room) }
 {
-    let a = key_check(p, key);
-    let b = first_of(a, nonce_check(nonce));
-    let c = first_of(b, ad_check(ad));
-    first_of(c, ciphertext_check(p, ciphertext, room))
+    key_check(p, key)?;
+    nonce_check(nonce)?;
+    ad_check(ad)?;
+    ciphertext_check(p, ciphertext, room)
 }
 
 // The opening of an input that no check before it refuses: the key schedule, once, the
-// walk over the data, and DEC.
+// walk over the data, and DEC. Sealing has its like: one for both would take ENC or DEC as a closure
+// over E, which is no plainer, and neither is a struct of what the call for C has one by one.
 fn open_accepted(
     p: Parameters,
     key: &[u8],
@@ -44,39 +47,9 @@ fn open_accepted(
     ensures { OpenedBy p key.now nonce.now ad.now ciphertext.now result out.old out.new }
 {
     let mut ctx = aes::blank();
-    aes::fill(key, &mut ctx);
-    let sum = data_hash(key, &ctx, p, ad);
-    dec(key, &ctx, p, nonce, sum, ciphertext, out)
-}
-
-// The checks after the first, for a set that is known, and the opening.
-fn open_known(
-    set: u32,
-    p: Parameters,
-    key: &[u8],
-    nonce: &[u8],
-    ad: &[u8],
-    ciphertext: &[u8],
-    out: &mut [u8],
-) -> u32
-    requires { lookup_of set ≡ Known p }
-    ensures { OpenCall set key.now nonce.now ad.now ciphertext.now out.old result out.new }
-{
-    let refusal = open_checks(
-        p,
-        key.len(),
-        nonce.len(),
-        ad.len(),
-        ciphertext.len(),
-        out.len(),
-    );
-    if refusal != 0 {
-        return refusal;
-    }
-    if open_accepted(p, key, nonce, ad, ciphertext, out) {
-        return 0;
-    }
-    8
+    let e = Encryption::new(key, &mut ctx);
+    let sum = data_hash(&e, p, ad);
+    dec(&e, p, nonce, sum, ciphertext, out)
 }
 
 // Opens ciphertext over the first bytes of out and answers 0, or answers 1 to 7 and leaves out as
@@ -88,11 +61,22 @@ pub fn open_plain(
     ad: &[u8],
     ciphertext: &[u8],
     out: &mut [u8],
-) -> u32
-    ensures { OpenCall set key.now nonce.now ad.now ciphertext.now out.old result out.new }
+) -> Result<(), Refusal>
+    ensures { OpenCall set key.now nonce.now ad.now ciphertext.now out.old (number_of result) out.new }
 {
-    let Set::Known(p) = lookup(set) else {
-        return 1;
+    let Some(p) = lookup(set) else {
+        return Err(Refusal::Set);
     };
-    open_known(set, p, key, nonce, ad, ciphertext, out)
+    open_checks(
+        p,
+        key.len(),
+        nonce.len(),
+        ad.len(),
+        ciphertext.len(),
+        out.len(),
+    )?;
+    if !open_accepted(p, key, nonce, ad, ciphertext, out) {
+        return Err(Refusal::False);
+    }
+    Ok(())
 }

@@ -6,31 +6,60 @@ use mathlib.Core.List.{List, [], ◌∷◌, ◌++◌}
 use Prim.Native.Nat.{ℕ, ◌/◌}
 use native.Mathlib.Omega.{arith}
 use lib.Dec.{T}
+use Rattle.std.specs.Prelude.{Some, None, Result, Ok, Err, IsErrAnd, replicate}
 use lib.ListN.{length, take}
 use Rattle.answers.specs.Rows.{Row, answer, numbers, is_in, own_numbers}
-use Rattle.answers.proofs.RowLaws.{refuses, passed, listed, stops, goes_on}
+use Rattle.answers.specs.declared.refusals.Refusal.{Refusal}
+use Rattle.answers.specs.Refusals.{number_of_refusal}
+use Rattle.octets.specs.Strings.{over}
+use Rattle.octets.proofs.Strings.{drop-replicate}
+use Rattle.answers.proofs.RowLaws.{refuses, accepts, listed, stops, goes_on}
+use Rattle.answers.proofs.RefusalLaws.{passed_first}
 use Rattle.cba_mode.specs.Sets.{tag_bytes}
 use Rattle.cba_mode.specs.Open.{is_false}
-use Rattle.cba_rules.specs.Checks.{set_tag, forged}
+use Rattle.cba_rules.specs.Checks.{set_tag, bad_nonce, bad_start, forged}
 use Rattle.cba_rules.specs.Refusals.{opening, OpenCall}
-use Rattle.cba_rules.proofs.RefusalLaws.{is-length}
+use Rattle.cba_rules.proofs.RefusalLaws.{has_length}
 use Rattle.cba_steps.specs.declared.parameters.Parameters.{Parameters}
-use Rattle.plain.specs.declared.sets.Set.TheVariants.{Known, Unknown}
 use Rattle.plain.specs.Lookup.{lookup_of}
 use Rattle.plain.proofs.SetLaws.{its_key, its_tag, unknown-answers, known-goes_on}
-use Rattle.window_rules.specs.Window.{is_repeat}
-use Rattle.receiver_rules.specs.Receiver.{Receiver, key_of, counter_of, repeated, length_checks, receiver_rows, receiver_answer, with_counter, receiver_output, ReceiverCall}
+use Rattle.window_rules.specs.Window.{Window, is_repeat, recorded}
+use Rattle.receiver_rules.specs.Receiver.{Receiver, no_window, begin, key_of, prefix_of, counter_of, nonce_rows, repeated, length_checks, receiver_rows, receiver_answer, with_counter, receiver_output, ReceiverCall}
 use Rattle.receiver_rules.proofs.ReceiverLaws.{call-refused, next-refused, next-accepted, plain-call}
+use Rattle.receiver.specs.declared.receiver.Receiver as code
+use Rattle.receiver.specs.Values.{value_of, Tried}
+
+-- ---- receivers as values
+
+abbrev with_parts : ℕ → List ℕ → ℕ → Window → Receiver
+with_parts set key prefix w = record { set = set; key = key; prefix = prefix; window = w }
+
+pub begin_is : {k : List ℕ} {w : Window} (set : ℕ) (key : List ℕ) (prefix : ℕ) → k ≡ over key (replicate 32 0) → w ≡ no_window →
+    with_parts set k prefix w ≡ begin set key prefix
+begin_is set key prefix e f = rw (e, f, drop-replicate (length key) 32 0) refl
+
+pub next_is : {w : Window} {c c' : ℕ} (v : Receiver) → w ≡ recorded v.window c → c ≡ c' → with_parts v.set v.key v.prefix w ≡ with_counter v c'
+next_is v e f = rw (e, f) refl
+
+-- what `?` hands on leaves the receiver
+pub handed_back : {v : code.Receiver} {N A C out out' : List ℕ} (r : Result code.Receiver Refusal) (x : Refusal) → IsErrAnd r (λ (y : Refusal). y ≡ x) →
+    ReceiverCall (value_of v) N A C out (number_of_refusal x) (value_of v) out' → Tried v N A C out r out'
+handed_back (Ok a) x e call = absurd e
+handed_back {v} {N} {A} {C} {out} {out'} (Err y) x e call =
+    subst (λ (z : Refusal). ReceiverCall (value_of v) N A C out (number_of_refusal z) (value_of v) out') (sym e) call
 
 -- ---- the checks of an opening
+
+-- those of a nonce that has its length are that of its start
+pub start_is : {a x : ℕ} (prefix : ℕ) (N : List ℕ) → length N ≡ 12 → x ≡ prefix_of N → a ≡ answer (bad_start prefix x ∷ []) → a ≡ answer (nonce_rows prefix N)
+unfolding numbers is_in own_numbers
+start_is prefix N l p e =
+    passed_first (bad_nonce (length N) ∷ []) (bad_start prefix (prefix_of N) ∷ []) refl (sym (accepts (bad_nonce (length N) ∷ []) (has_length _ 12 l, tt)))
+    (e ∙ ap (λ (y : ℕ). answer (bad_start prefix y ∷ [])) p)
 
 module _ (t prefix : ℕ) (N : List ℕ) (ad ciphertext room : ℕ) where
   abbrev lengths : List Row
   lengths = length_checks t prefix N ad ciphertext room
-
-  pub lengths-nonce : answer lengths ≡ 0 → length N ≡ 12
-  unfolding numbers is_in own_numbers
-  lengths-nonce z = is-length (length N) 12 (passed lengths refl z).0
 
   -- none of them answers 8
   lengths-eight : answer lengths ≡ 8 → ⊥
@@ -39,11 +68,11 @@ module _ (t prefix : ℕ) (N : List ℕ) (ad ciphertext room : ℕ) where
 
 -- ---- an opening
 
-pub unknown-refused : (v : Receiver) (N A C out : List ℕ) → lookup_of v.set ≡ Unknown → ReceiverCall v N A C out 1 v out
+pub unknown-refused : (v : Receiver) (N A C out : List ℕ) → lookup_of v.set ≡ None → ReceiverCall v N A C out 1 v out
 unfolding receiver_answer receiver_rows
 unknown-refused v N A C out h = call-refused v N A C out 1 (unknown-answers v.set _ h) (λ z. omega (arith, z)) (λ z. omega (arith, z))
 
-module _ (v : Receiver) (p : Parameters) (known : lookup_of v.set ≡ Known p) (N A C out : List ℕ) where
+module _ (v : Receiver) (p : Parameters) (known : lookup_of v.set ≡ Some p) (N A C out : List ℕ) where
   abbrev its_answer : ℕ
   its_answer = receiver_answer v N A C (length out)
 

@@ -1,32 +1,21 @@
-// The parts of a nonce as numbers.
-ghost use Rattle.std.specs.Prelude.{◌≡◌, ◌≤◌, length};
-ghost use Rattle.octets.specs.Numbers.{number};
+// The parts of a nonce as numbers, big-endian: a function for each, since they have widths of their own,
+// and one over both would take the library's from_be_bytes as a closure.
+ghost use Rattle.std.specs.Prelude.{◌≡◌};
 ghost use Rattle.receiver_rules.specs.Receiver.{prefix_of, counter_of};
 
-fn big_endian(s: &[u8]) -> u64
-    requires { length s.now ≤ 8 }
-    ensures { result ≡ number s.now }
-{
-    let mut x = 0u64;
-    let mut i = 0;
-    while i < s.len() {
-        x = x * 256 + (s[i] as u64);
-        i += 1;
-    }
-    x
-}
-
 // The number that it begins with.
-pub fn prefix_of(nonce: &[u8]) -> u64
-    requires { length nonce.now ≡ 12 }
+pub(crate) fn prefix_of(nonce: &[u8; 12]) -> u32
     ensures { result ≡ prefix_of nonce.now }
 {
-    big_endian(&nonce[..4])
+    let mut prefix = [0; 4];
+    prefix.copy_from_slice(&nonce[..4]);
+    u32::from_be_bytes(prefix)
 }
 
-pub fn counter_of(nonce: &[u8]) -> u64
-    requires { length nonce.now ≡ 12 }
+pub(crate) fn counter_of(nonce: &[u8; 12]) -> u64
     ensures { result ≡ counter_of nonce.now }
 {
-    big_endian(&nonce[4..])
+    let mut counter = [0; 8];
+    counter.copy_from_slice(&nonce[4..]);
+    u64::from_be_bytes(counter)
 }

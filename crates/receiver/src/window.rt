@@ -7,62 +7,81 @@ const REACH: u64 = 64;
 
 // Whether any counter was accepted, the highest of them, and which of the 64 ending there were: bit i
 // of marks, counted from the lowest, stands for the one that is i below.
-#[derive(Clone, Copy)]
+//
+// No Option of the highest and the marks: a record may be any of these values, also a highest where
+// none was accepted, and receiver_script's records of that kind are printed as they are.
+#[derive(Clone, Copy, Debug, PartialEq, Eq)]
 pub struct Window {
     pub begun: bool,
     pub highest: u64,
     pub marks: u64,
 }
 
-// Whether a counter was accepted before, or is too far below the highest to tell.
-pub fn is_repeat(w: Window, counter: u64) -> bool
-    ensures { result ≡ is_repeat (window_of w) counter }
-{
-    if !w.begun {
-        return false;
+impl Default for Window {
+    ghost use Rattle.std.specs.Prelude.{◌≡◌};
+    ghost use Rattle.receiver_rules.specs.Receiver.{no_window};
+    ghost use Rattle.receiver.specs.Values.{window_of};
+
+    ghost is_default = { λ w. window_of w ≡ no_window };
+
+    // No counter accepted.
+    fn default() -> Window {
+        Window {
+            begun: false,
+            highest: 0,
+            marks: 0,
+        }
     }
-    if counter > w.highest {
-        return false;
+}
+
+impl Window {
+    // Whether a counter was accepted before, or is too far below the highest to tell. Each case of the
+    // definition returns by itself: one match over the three conditions is no plainer.
+    pub(crate) fn is_repeat(self, counter: u64) -> bool
+        ensures { result ≡ is_repeat (window_of self) counter }
+    {
+        if !self.begun {
+            return false;
+        }
+        if counter > self.highest {
+            return false;
+        }
+        let behind = self.highest - counter;
+        if behind >= REACH {
+            return true;
+        }
+        (self.marks >> behind) % 2 == 1
     }
-    let behind = w.highest - counter;
-    if behind >= REACH {
-        return true;
+
+    // The window after a counter that is no repeat is accepted, again case by case.
+    pub(crate) fn recorded(self, counter: u64) -> Window
+        requires { is_repeat (window_of self) counter ≡ false }
+        ensures { window_of result ≡ recorded (window_of self) counter }
+    {
+        if !self.begun {
+            return Window {
+                begun: true,
+                highest: counter,
+                marks: 1,
+            };
+        }
+        if counter > self.highest {
+            return Window {
+                highest: counter,
+                marks: moved(self.marks, counter - self.highest) | 1,
+                ..self
+            };
+        }
+        Window {
+            marks: self.marks | 1 << (self.highest - counter),
+            ..self
+        }
     }
-    (w.marks >> behind) % 2 == 1
 }
 
 // The marks, where the highest counter moves up; what is out of reach then is lost.
 fn moved(marks: u64, by: u64) -> u64
     ensures { result ≡ marks * 2 ^ by % 2 ^ 64 }
 {
-    if by >= REACH {
-        return 0;
-    }
-    marks << by
-}
-
-// The window after a counter that is no repeat is accepted.
-pub fn recorded(w: Window, counter: u64) -> Window
-    requires { is_repeat (window_of w) counter ≡ false }
-    ensures { window_of result ≡ recorded (window_of w) counter }
-{
-    if !w.begun {
-        return Window {
-            begun: true,
-            highest: counter,
-            marks: 1,
-        };
-    }
-    if counter > w.highest {
-        return Window {
-            begun: true,
-            highest: counter,
-            marks: moved(w.marks, counter - w.highest) | 1,
-        };
-    }
-    Window {
-        begun: true,
-        highest: w.highest,
-        marks: w.marks | 1 << (w.highest - counter),
-    }
+    marks.checked_shl(by.min(REACH) as u32).unwrap_or(0)
 }

@@ -18,190 +18,143 @@
 // written a second time, which ./test makes again and compares.
 #![tactic(auto)]
 
+mod call;
 mod lines;
 
 ghost use Rattle.std.specs.Prelude.{◌≡◌};
-ghost use Rattle.script.specs.Records.{eight};
 ghost use Rattle.receiver.specs.Values.{value_of};
 ghost use Rattle.receiver_script.specs.Records.{made_by, put_by};
 
-use crate::lines::{print_call, print_receiver};
+use crate::call::Call;
+use crate::lines::{print_opened, print_outcome, print_receiver};
 use receiver::{Outcome, Receiver, Window};
-use script::{fill, key_of, least, length, long_number, number, print_number, print_output};
+use script::{Record, each_record, fill};
 use std::io::Read;
 
-fn made(rt: &impl Print, r: [u8; 64]) -> Receiver
-    ensures { value_of result ≡ made_by r }
+// What the calls' strings are made in.
+#[derive(Drop)]
+struct Buffers<'a> {
+    ad: &'a mut [u8],
+    text: &'a mut [u8],
+    out: &'a mut [u8],
+}
+
+fn made(rt: &impl Print, r: &Record) -> Receiver
+    ensures { value_of result ≡ made_by r.now.bytes }
 {
-    let end = 10 + least(r[9] as usize, 54);
-    let set = number(r[1], r[2], r[3], r[4]);
-    let prefix = number(r[5], r[6], r[7], r[8]);
-    let m = receiver::make(set, &r[10..end], prefix);
-    let v = m.receiver;
-    print_call(rt, 0);
-    print_number(rt, m.answer as u64);
-    print_receiver(rt, v);
+    let m = receiver::make(r.number(1), r.string(10, r.byte(9)), r.number(5));
+    print_outcome(rt, Call::Make, &m);
     show::line_end(rt);
-    v
+    m.receiver
 }
 
-// The highest counter and the marks of a record `put`.
-fn highest_of(r: [u8; 64]) -> u64
-    ensures { result ≡ eight r 42 }
-{
-    let high = number(r[42], r[43], r[44], r[45]);
-    let low = number(r[46], r[47], r[48], r[49]);
-    long_number(high, low)
-}
-
-fn marks_of(r: [u8; 64]) -> u64
-    ensures { result ≡ eight r 50 }
-{
-    let high = number(r[50], r[51], r[52], r[53]);
-    let low = number(r[54], r[55], r[56], r[57]);
-    long_number(high, low)
-}
-
-fn hand_made(r: [u8; 64]) -> Receiver
-    ensures { value_of result ≡ put_by r }
+fn hand_made(r: &Record) -> Receiver
+    ensures { value_of result ≡ put_by r.now.bytes }
 {
     Receiver {
-        set: number(r[1], r[2], r[3], r[4]),
-        key: key_of(r),
-        prefix: number(r[37], r[38], r[39], r[40]),
+        set: r.number(1),
+        key: r.part(5),
+        prefix: r.number(37),
         window: Window {
-            begun: r[41] != 0,
-            highest: highest_of(r),
-            marks: marks_of(r),
+            begun: r.flag(41),
+            highest: r.long_number(42),
+            marks: r.long_number(50),
         },
     }
 }
 
-fn put(rt: &impl Print, r: [u8; 64]) -> Receiver
-    ensures { value_of result ≡ put_by r }
+fn put(rt: &impl Print, r: &Record) -> Receiver
+    ensures { value_of result ≡ put_by r.now.bytes }
 {
     let v = hand_made(r);
-    print_call(rt, 1);
-    print_receiver(rt, v);
+    let _ = rt.print(Call::Put);
+    print_receiver(rt, &v);
     show::line_end(rt);
     v
-}
-
-// A call's answer, the receiver after it, and the output.
-fn print_opened(rt: &impl Print, kind: u8, s: Outcome, out: &[u8]) {
-    let v = s.receiver;
-    print_call(rt, kind);
-    print_number(rt, s.answer as u64);
-    print_receiver(rt, v);
-    print_output(rt, out);
-    show::line_end(rt);
 }
 
 // Plain opening under the receiver's set and n bytes of its key.
 fn open_plainly(
     v: Receiver,
-    n: usize,
+    n: u8,
     nonce: &[u8],
     ad: &[u8],
     text: &[u8],
     out: &mut [u8],
 ) -> Outcome {
-    let key = v.key;
-    let end = least(n, 32);
-    let answer = plain::open_plain(v.set, &key[..end], nonce, ad, text, out);
+    let end = (n as usize).min(32);
     Outcome {
-        answer: answer,
+        answer: plain::open_plain(v.set, &v.key[..end], nonce, ad, text, out),
         receiver: v,
     }
 }
 
-// The call that the record's kind says.
-fn call(v: Receiver, r: [u8; 64], ad: &[u8], text: &[u8], out: &mut [u8]) -> Outcome {
-    let end = 13 + least(r[1] as usize, 51);
-    if r[0] == 4 {
-        return open_plainly(v, r[12] as usize, &r[13..end], ad, text, out);
-    }
-    v.opened(&r[13..end], ad, text, out)
-}
-
-// The ciphertext: noise, or what comes after the head.
-fn take_text(input: &mut impl Read, r: [u8; 64], text: &mut [u8]) {
-    if r[0] == 3 {
-        fill(text, r[12]);
-    } else {
-        let _ = input.read_exact(text);
-    }
-}
-
-// An opening of strings that have the record's lengths.
+// An opening of strings that have the record's lengths. The ciphertext is noise, or what comes after
+// the head.
 fn opening(
     rt: &impl Print,
     input: &mut impl Read,
     v: Receiver,
-    r: [u8; 64],
+    r: &Record,
     ad: &mut [u8],
     text: &mut [u8],
     out: &mut [u8],
 ) -> Receiver {
-    fill(ad, r[11]);
-    take_text(input, r, text);
+    let call = Call::from(r.byte(0));
+    fill(ad, r.byte(11));
+    if call == Call::Noise {
+        fill(text, r.byte(12));
+    } else {
+        let _ = input.read_exact(text);
+    }
     fill(out, 165);
-    let s = call(v, r, ad, text, out);
-    print_opened(rt, r[0], s, out);
-    let next = s.receiver;
-    next
+    let nonce = r.string(13, r.byte(1));
+    let s = if call == Call::Plain {
+        open_plainly(v, r.byte(12), nonce, ad, text, out)
+    } else {
+        v.opened(nonce, ad, text, out)
+    };
+    print_opened(rt, call, &s, out);
+    s.receiver
 }
 
-// The same in buffers, of which it takes as much as the record says.
-fn opening_in(
-    rt: &impl Print,
-    input: &mut impl Read,
-    v: Receiver,
-    r: [u8; 64],
-    ad: &mut [u8],
-    text: &mut [u8],
-    out: &mut [u8],
-) -> Receiver {
-    let h = least(length(r[2], r[3], r[4]), ad.len());
-    let t = least(length(r[5], r[6], r[7]), text.len());
-    let o = least(length(r[8], r[9], r[10]), out.len());
-    opening(rt, input, v, r, &mut ad[..h], &mut text[..t], &mut out[..o])
-}
-
+// The call of a record, in as much of the buffers as it says.
 fn step(
     rt: &impl Print,
     input: &mut impl Read,
     v: Receiver,
-    r: [u8; 64],
-    ad: &mut [u8],
-    text: &mut [u8],
-    out: &mut [u8],
+    r: &Record,
+    b: &mut Buffers,
 ) -> Receiver {
-    if r[0] == 0 {
-        return made(rt, r);
-    }
-    if r[0] == 1 {
-        return put(rt, r);
-    }
-    opening_in(rt, input, v, r, ad, text, out)
-}
-
-fn run(rt: &impl Print, input: &mut impl Read, ad: &mut [u8], text: &mut [u8], out: &mut [u8]) {
-    let mut v = hand_made([0; 64]);
-    let mut turns = 0u32;
-    while turns < 1000000 {
-        let mut r = [0u8; 64];
-        if input.read_exact(&mut r).is_err() {
-            return;
+    match Call::from(r.byte(0)) {
+        Call::Make => made(rt, r),
+        Call::Put => put(rt, r),
+        Call::Open | Call::Noise | Call::Plain => {
+            let h = r.length(2).min(b.ad.len());
+            let t = r.length(5).min(b.text.len());
+            let o = r.length(8).min(b.out.len());
+            opening(
+                rt,
+                input,
+                v,
+                r,
+                &mut b.ad[..h],
+                &mut b.text[..t],
+                &mut b.out[..o],
+            )
         }
-        v = step(rt, input, v, r, ad, text, out);
-        turns += 1;
     }
 }
 
+// The other script program has its like: what they share is `each_record`.
 fn main(rt: HostRuntime) {
-    let mut ad = [0u8; 8192];
-    let mut text = [0u8; 66000];
-    let mut out = [0u8; 66000];
-    run(&rt, &mut rt.stdin(), &mut ad, &mut text, &mut out);
+    let mut b = Buffers {
+        ad: &mut [0u8; 8192],
+        text: &mut [0u8; 66000],
+        out: &mut [0u8; 66000],
+    };
+    let mut v = hand_made(&Record { bytes: [0; 64] });
+    each_record(&mut rt.stdin(), |input, r| {
+        v = step(&rt, input, v, r, &mut b);
+    });
 }

@@ -1,10 +1,13 @@
--- The values of a record, a string of 64 bytes: big-endian numbers of two, four and eight bytes from a place on, a flag, and the bytes
+-- The values of a record, a string of 64 bytes: big-endian numbers of two, three, four and eight bytes from a place on, a flag, and the bytes
 -- between two places.
 -- Assumes nothing.
 use Rattle.std.specs.Prelude.{Bool, not, List, ℕ, ◌+◌, ◌-◌, ◌*◌, eqb, take, drop, get_or}
 
 abbrev pub two : List ℕ → ℕ → ℕ
 two r i = get_or r i 0 * 256 + get_or r (i + 1) 0
+
+abbrev pub three : List ℕ → ℕ → ℕ
+three r i = get_or r i 0 * 65536 + get_or r (i + 1) 0 * 256 + get_or r (i + 2) 0
 
 abbrev pub four : List ℕ → ℕ → ℕ
 four r i = get_or r i 0 * 16777216 + get_or r (i + 1) 0 * 65536 + get_or r (i + 2) 0 * 256 + get_or r (i + 3) 0

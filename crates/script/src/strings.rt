@@ -12,9 +12,7 @@ fn byte_at(seed: u8, i: usize) -> u8
 pub fn fill(s: &mut [u8], seed: u8)
     ensures { s.new ≡ filled seed (length s.old) }
 {
-    let mut i = 0;
-    while i < s.len() {
-        s[i] = byte_at(seed, i);
-        i += 1;
+    for (i, byte) in s.iter_mut().enumerate() {
+        *byte = byte_at(seed, i);
     }
 }

@@ -23,8 +23,9 @@ pub fn number(rt: &impl Print, n: u64) {
     let _ = rt.print(n);
 }
 
+// Bytes that are shown as two hex digits each.
 #[derive(Drop)]
-struct Hex<'a>(&'a [u8]);
+pub struct Hex<'a>(pub &'a [u8]);
 
 impl fmt::Display for Hex<'_> {
     fn fmt<W: fmt::Write>(&self, f: &mut fmt::Formatter<W>) -> fmt::Result {

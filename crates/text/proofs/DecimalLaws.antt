@@ -8,24 +8,16 @@ use Prim.Native.Nat.{ℕ, zero, suc, ◌+◌, ◌-◌, ◌*◌, ◌/◌, ◌%◌
 use native.Mathlib.Nat.{le_of_suc-le-suc, not-suc-le-zero, pow-suc}
 use native.Mathlib.Numerals.{add-one}
 use native.Mathlib.Omega.{arith}
-use borrow.Author.Tests.{eq-eqb, ne_eqb, lt-ltb, le-ltb, le-leb, lt-leb, ltb-true}
-use lib.Dec.{eqb, ltb, leb}
+use borrow.Author.Tests.{eq-eqb, ne_eqb, lt-ltb, le-ltb, ltb-true}
+use lib.Dec.{eqb, ltb}
 use lib.ListN.{length, take, drop, get_or, length-append, drop_of_length-le}
 use lib.Seq.{drop-cons, drop_at, drop-append-le, take-length}
 use Rattle.text.proofs.NumeralLaws.{both, digit}
-use Rattle.text.specs.Writing.{Puts}
 use Rattle.text.specs.Numerals.{decimal_of, is_digit, all_digits, is_set_number, decimal_value}
 use Rattle.octets.proofs.Tests.{le_or_lt}
+use Rattle.std.specs.List.{list_all}
 
 -- ---- digits
-
-pub digit_low : (c : ℕ) → c < 48 → is_digit c ≡ false
-unfolding is_digit
-digit_low c h = rw (lt-leb 48 c h)
-
-pub digit-above : (c : ℕ) → 48 ≤ c → is_digit c ≡ leb c 57
-unfolding is_digit
-digit-above c h = rw (le-leb 48 c h)
 
 digit_at : (w : List ℕ) (i : ℕ) → all_digits w ≡ true → i < length w → is_digit (get_or w i 0) ≡ true
 unfolding all_digits
@@ -33,31 +25,10 @@ digit_at [] i h l = absurd (not-suc-le-zero l)
 digit_at (x ∷ w) zero h l = (both (is_digit x) (all_digits w) h).0
 digit_at (x ∷ w) (suc i) h l = digit_at w i (both (is_digit x) (all_digits w) h).1 (le_of_suc-le-suc l)
 
--- After i turns: the first i bytes are digits.
-pub record Passed (w : List ℕ) (i : ℕ) : Type 0 where
-  pub within : i ≤ length w
-  pub rest : all_digits w ≡ all_digits (drop i w)
-
-pub passed_none : (w : List ℕ) → Passed w 0
-passed_none w = record { within = omega arith; rest = refl }
-
-one_more : (w : List ℕ) (i : ℕ) → i < length w → all_digits (drop i w) ≡ is_digit (get_or w i 0) && all_digits (drop (i + 1) w)
+pub all_of : (w : List ℕ) → list_all is_digit w ≡ all_digits w
 unfolding all_digits
-one_more w i h = rw (drop-cons w i 0, add-one)
-
-pub passed-turn : {w : List ℕ} {i : ℕ} → Passed w i → i < length w → is_digit (get_or w i 0) ≡ true → Passed w (i + 1)
-passed-turn {w} {i} v h e =
-    record {
-      within = omega arith;
-      rest = v.rest ∙ one_more w i h ∙ ap (λ (p : Bool). p && all_digits (drop (i + 1) w)) e;
-    }
-
-pub passed-not : {w : List ℕ} {i : ℕ} → Passed w i → i < length w → is_digit (get_or w i 0) ≡ false → false ≡ all_digits w
-passed-not {w} {i} v h e = sym (v.rest ∙ one_more w i h ∙ ap (λ (p : Bool). p && all_digits (drop (i + 1) w)) e)
-
-pub passed-all : {w : List ℕ} {i : ℕ} → Passed w i → length w ≤ i → true ≡ all_digits w
-unfolding all_digits
-passed-all {w} {i} v h = sym (v.rest ∙ ap all_digits (drop_of_length-le w {i = i} h))
+all_of [] = refl
+all_of (c ∷ w) = ap (λ (p : Bool). is_digit c && p) (all_of w)
 
 -- ---- the number of a set
 
@@ -156,6 +127,15 @@ unfolding digits_of
 length_digits zero n = refl
 length_digits (suc k) n = length-append (digits_of k (n / 10)) _ ∙ omega (arith, length_digits k (n / 10))
 
+-- all five
+five-digits : (n : ℕ) → (48 + n / 10000 % 10) ∷ (48 + n / 1000 % 10) ∷ (48 + n / 100 % 10) ∷ (48 + n / 10 % 10) ∷ (48 + n % 10) ∷ [] ≡ digits_of 5 n
+unfolding digits_of
+five-digits n =
+    let a : n / 10000 ≡ n / 10 / 10 / 10 / 10 = omega arith in
+    let b : n / 1000 ≡ n / 10 / 10 / 10 = omega arith in
+    let c : n / 100 ≡ n / 10 / 10 = omega arith in
+    rw (a, b, c) refl
+
 -- without the first i, where the others are as many as the number has
 without : (k n i : ℕ) → i + length (decimal_of k n) ≡ k → drop i (digits_of k n) ≡ decimal_of k n
 unfolding decimal_of digits_of
@@ -177,10 +157,9 @@ without (suc k) n i e = ⊎_elim (more (without k (n / 10) i)) one (le_or_lt 10 
         drop-append-le i (digits_of k (n / 10)) _ (omega (arith, d, l))
         ∙ rw (le-ltb n 10 h) (ap (λ (s : List ℕ). s ++ ((48 + n % 10) ∷ [])) (before l))
 
-pub put_without : (k n i : ℕ) (out last : List ℕ) → i + length (decimal_of k n) ≡ k →
-    last ≡ take (k - i) (drop i (digits_of k n)) ++ drop (length (take (k - i) (drop i (digits_of k n)))) out →
-    Puts (decimal_of k n) (k - i) out last
-put_without k n i out last e p =
-    let l : k - i ≡ length (decimal_of k n) = omega (arith, e) in
-    let d : take (k - i) (drop i (digits_of k n)) ≡ decimal_of k n = rw (without k n i e, l) (take-length (decimal_of k n)) in
-    (l, p ∙ ap (λ (s : List ℕ). s ++ drop (length s) out) d ∙ ap (λ (j : ℕ). decimal_of k n ++ drop j out) (sym l))
+-- of five digits, those of the number
+pub without-zeros : (n i : ℕ) → i + length (decimal_of 5 n) ≡ 5 →
+    take (5 - i) (drop i ((48 + n / 10000 % 10) ∷ (48 + n / 1000 % 10) ∷ (48 + n / 100 % 10) ∷ (48 + n / 10 % 10) ∷ (48 + n % 10) ∷ [])) ≡ decimal_of 5 n
+without-zeros n i e =
+    let l : 5 - i ≡ length (decimal_of 5 n) = omega (arith, e) in
+    rw (five-digits n, without 5 n i e, l) (take-length (decimal_of 5 n))

@@ -1,6 +1,6 @@
 -- Decimal and hexadecimal text: what is written, and what is read. Characters are bytes.
 -- Assumes nothing.
-use Rattle.std.specs.Prelude.{Bool, true, false, cond, not, ◌&&◌, ◌||◌, List, [], ◌∷◌, ◌++◌, ℕ, zero, suc, ◌+◌, ◌-◌, ◌*◌, ◌/◌, ◌%◌, eqb, ltb, leb, length}
+use Rattle.std.specs.Prelude.{Bool, Option, Some, None, true, false, cond, not, ◌&&◌, ◌||◌, List, [], ◌∷◌, ◌++◌, ℕ, zero, suc, ◌+◌, ◌-◌, ◌*◌, ◌/◌, ◌%◌, eqb, ltb, leb, length}
 use Rattle.octets.specs.Strings.{eqs}
 
 -- ---- decimal
@@ -29,6 +29,10 @@ is_set_number (c ∷ s) = is_digit c && all_digits s && ltb (length s) 3 && (eqb
 unfoldable pub decimal_value : ℕ → List ℕ → ℕ
 decimal_value n [] = n
 decimal_value n (c ∷ s) = decimal_value (n * 10 + (c - 48)) s
+
+-- the number that a word stands for, if it is the number of a set
+abbrev pub read_set_number : List ℕ → Option ℕ
+read_set_number w = cond (is_set_number w) (Some (decimal_value 0 w)) None
 
 -- ---- hexadecimal, lower case
 

@@ -3,8 +3,8 @@
 
 mod decimal;
 mod hex;
-mod put;
+mod writer;
 
-pub use decimal::{is_set_number, put_decimal, set_number};
-pub use hex::{is_value, put_shown, read_value};
-pub use put::{put_byte, put_number, put_string};
+pub use decimal::read_set_number;
+pub use hex::{is_value, read_value};
+pub use writer::Writer;

@@ -7,8 +7,8 @@ use Rattle.fips197.specs.Cipher.{inv_cipher}
 use Rattle.aes.proofs.ContextLaws.{answer-good, answer_bad, answered-good, answered_bad}
 use Rattle.aes.proofs.aes_decrypt.Goals as goal
 
-pub fill-requires : goal.fill-requires
-fill-requires c =
+pub new-e-requires : goal.new-e-requires
+new-e-requires c =
     let good : is_key c.args.key.now ≡ true = sym c.is_key.ensures ∙ c.if-is_key.true in
     record { key_value = good; ctx_value = c.blank-ctx.ensures }
 
@@ -16,7 +16,7 @@ pub returns-then-is_key : goal.returns-then-is_key
 returns-then-is_key c =
     let good : is_key c.args.key.now ≡ true = sym c.is_key.ensures ∙ c.if-is_key.true in
     let h = good in
-    record { value = answer-good _ h; block_after = c.decrypt.ensures ∙ sym (answered-good inv_cipher _ _ h) }
+    record { value = answer-good _ h; block_after = rw (← c.new-e.ensures, ← c.new-d.ensures) (c.decrypt.ensures) ∙ sym (answered-good inv_cipher _ _ h) }
 
 pub returns : goal.returns
 returns c =

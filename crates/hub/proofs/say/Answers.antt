@@ -1,12 +1,16 @@
+use native.Mathlib.Omega.{arith}
+use borrow.Author.Rules.{rules}
+use lib.ListN.{length-take}
 use Rattle.hub.proofs.Laws.{said-none, said_more, said-short}
 use Rattle.hub.proofs.say.Goals as goal
 
-pub loop-used-init : goal.loop-used-init
-loop-used-init g c = said-none c.args.h _ _ _ c.requires.line_room_in_bounds.2 c.requires.line_room_in_bounds.1 c.requires.sound
+pub loop-rest-init : goal.loop-rest-init
+loop-rest-init g c = said-none _ _ c.requires
 
-pub returns-then-n-f : goal.returns-then-n-f
-returns-then-n-f g c = said-short _ _ c.loop-used.invariant c.loop-used-test.true c.feed-f.ensures c.if-n-f.true
+pub returns-then-n-fed : goal.returns-then-n-fed
+returns-then-n-fed g c = said-short c.loop-rest.out _ c.loop-rest.invariant (search rules) (search rules) c.feed-fed.ensures c.if-n-fed.true
 
-pub loop-used-preserved : goal.loop-used-preserved
-loop-used-preserved g c =
-    said_more _ _ c.loop-used.invariant c.loop-used-test.true c.feed-f.ensures c.write-n.ensures c.if-n-f.false c.feed-f.auto.line c.feed-f.auto.out
+pub loop-rest-preserved : goal.loop-rest-preserved
+loop-rest-preserved g c =
+    let l = length-take c.feed-fed.result.written c.feed-fed.new.out in
+    said_more c.loop-rest.out _ c.loop-rest.invariant (search rules) (search rules) c.feed-fed.ensures (omega (arith, c.write-n.ensures, l)) c.if-n-fed.false

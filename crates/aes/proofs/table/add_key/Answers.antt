@@ -7,4 +7,4 @@ use Rattle.aes.proofs.table.add_key.Goals as goal
 
 pub returns : goal.returns
 unfolding add_round_key
-returns c = c.xor_words.ensures ∙ ap (xors _) c.words_at.ensures
+returns c = c.bitxor.ensures ∙ ap (xors _) c.words_at.ensures

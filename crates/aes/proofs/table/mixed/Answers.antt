@@ -16,6 +16,6 @@ returns c =
     (xor_bytes _ c.word_at-u.result
     ∙ ap₂ xors
     (xor_bytes c.word_at-p.result c.word_at-q.result
-    ∙ ap₂ xors (c.word_at-p.ensures ∙ ap (λ (x : ℕ). word_at c.args.t.now (8 * x)) c.first.ensures) (c.word_at-q.ensures ∙ ap (word 3) c.second.ensures))
-    (c.word_at-u.ensures ∙ ap (word 2) c.third.ensures))
-    (c.word_at-v.ensures ∙ ap (word 1) c.fourth.ensures)
+    ∙ ap₂ xors (c.word_at-p.ensures ∙ ap (λ (x : ℕ). word_at c.args.t.now (8 * x)) c.byte.ensures) (c.word_at-q.ensures ∙ ap (word 3) c.byte-2.ensures))
+    (c.word_at-u.ensures ∙ ap (word 2) c.byte-3.ensures))
+    (c.word_at-v.ensures ∙ ap (word 1) c.byte-4.ensures)

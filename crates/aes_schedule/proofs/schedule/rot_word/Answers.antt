@@ -8,4 +8,4 @@ use Rattle.aes_schedule.proofs.schedule.rot_word.Goals as goal
 
 pub returns : goal.returns
 unfolding table rot_word
-returns c = rotated-bytes c.args.x (search rules)
+returns c = rw c.rotate_right.ensures (rotated-bytes c.args.x (search rules))

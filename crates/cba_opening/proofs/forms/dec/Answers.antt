@@ -12,7 +12,7 @@ use Rattle.cba_opening.proofs.forms.dec.Goals as goal
 
 pub returns-then-attempted : goal.returns-then-attempted
 returns-then-attempted c =
-    open_good (cipher c.args.key.now) (inv_cipher c.args.key.now) c.args.p.tau c.args.p.capacity c.args.nonce.now (data_tag c.args.p c.args.sum) c.args.ciphertext.now c.args.out.now c.attempted.new.out (length c.args.ciphertext.now - tag_bytes c.args.p.tau) _
+    open_good (cipher c.args.e.now) (inv_cipher c.args.e.now) c.args.p.tau c.args.p.capacity c.args.nonce.now (data_tag c.args.p c.args.sum) c.args.ciphertext.now c.args.out.now c.attempted.new.out (length c.args.ciphertext.now - tag_bytes c.args.p.tau) _
     c.requires.opens.least c.attempted.ensures c.if-attempted.true
 
 pub overflow_sub-ciphertext : goal.overflow_sub-ciphertext
@@ -23,5 +23,5 @@ clear-requires c = omega (arith, c.tag_bytes.ensures, c.attempted.auto.out, c.re
 
 pub returns : goal.returns
 returns c =
-    open_bad (cipher c.args.key.now) (inv_cipher c.args.key.now) c.args.p.tau c.args.p.capacity c.args.nonce.now (data_tag c.args.p c.args.sum) c.args.ciphertext.now c.args.out.now c.attempted.new.out c.clear.new.out (length c.args.ciphertext.now - tag_bytes c.args.p.tau) _ _
+    open_bad (cipher c.args.e.now) (inv_cipher c.args.e.now) c.args.p.tau c.args.p.capacity c.args.nonce.now (data_tag c.args.p c.args.sum) c.args.ciphertext.now c.args.out.now c.attempted.new.out c.clear.new.out (length c.args.ciphertext.now - tag_bytes c.args.p.tau) _ _
     c.requires.opens.least c.attempted.ensures c.if-attempted.false c.attempted.auto.out (omega (arith, c.requires.opens.room)) (ap (λ (n : ℕ). length c.args.ciphertext.now - n) c.tag_bytes.ensures) c.clear.ensures

@@ -15,66 +15,66 @@ use Rattle.cba_opening.proofs.OpenForms.{first-room, ends-after, long-turn}
 use Rattle.cba_opening.proofs.forms.open_long.Goals as goal
 
 pub overflow_sub-ciphertext : goal.overflow_sub-ciphertext
-overflow_sub-ciphertext c = omega (arith, c.tag_bytes-t.ensures, c.requires.opens.least)
+overflow_sub-ciphertext c = omega (arith, c.tag_bytes-t.ensures, c.requires.least)
 
-pub ending_of-e-requires : goal.ending_of-e-requires
-ending_of-e-requires c = record { l_lt_n = omega (arith, c.tag_bytes-t.ensures, c.first_bytes-l.ensures, c.requires.tau_in_bounds); t_bound = rw c.tag_bytes-t.ensures (tag_fits c.requires.opens.given.fits.0) }
+pub ending_of-end-requires : goal.ending_of-end-requires
+ending_of-end-requires c = record { l_lt_n = omega (arith, c.tag_bytes-t.ensures, c.first_bytes-l.ensures, c.requires.longer_than_first); t_bound = rw c.tag_bytes-t.ensures (tag_fits c.args.r.now.given.fits.0) }
 
 pub slice_bounds-first-end : goal.slice_bounds-first-end
 slice_bounds-first-end c =
-    let first_there : c.first_bytes-l.result + tag_bytes c.args.p.tau ≤ length c.args.ciphertext.now = omega (arith, c.first_bytes-l.ensures, c.requires.tau_in_bounds) in
+    let first_there : c.first_bytes-l.result + tag_bytes c.args.r.now.p.tau ≤ length c.args.ciphertext.now = omega (arith, c.first_bytes-l.ensures, c.requires.longer_than_first) in
     let there = first_there in sym (take-size _ _ (omega arith))
 
 pub cover-b-requires : goal.cover-b-requires
 cover-b-requires c =
-    let first_there : c.first_bytes-l.result + tag_bytes c.args.p.tau ≤ length c.args.ciphertext.now = omega (arith, c.first_bytes-l.ensures, c.requires.tau_in_bounds) in
+    let first_there : c.first_bytes-l.result + tag_bytes c.args.r.now.p.tau ≤ length c.args.ciphertext.now = omega (arith, c.first_bytes-l.ensures, c.requires.longer_than_first) in
     let there = first_there in
     let s = take-size c.first_bytes-l.result c.args.ciphertext.now (omega arith) in
-    record { encrypts = c.requires.encrypts; given = c.requires.opens.given; first_len_bound = omega (arith, c.requires.opens.given.fits.2); first_in_bounds = omega (arith, c.requires.opens.room) }
+    record { first_len_bound = omega (arith, c.args.r.now.given.fits.2); first_in_bounds = omega (arith, c.requires.room) }
 
 pub full_tag-whole-requires : goal.full_tag-whole-requires
 full_tag-whole-requires c =
-    let first_there : c.first_bytes-l.result + tag_bytes c.args.p.tau ≤ length c.args.ciphertext.now = omega (arith, c.first_bytes-l.ensures, c.requires.tau_in_bounds) in
+    let first_there : c.first_bytes-l.result + tag_bytes c.args.r.now.p.tau ≤ length c.args.ciphertext.now = omega (arith, c.first_bytes-l.ensures, c.requires.longer_than_first) in
     let there = first_there in
     let s = take-size c.first_bytes-l.result c.args.ciphertext.now (omega arith) in
-    omega (arith, c.first_bytes-l.ensures, c.requires.opens.given.fits.2)
+    omega (arith, c.first_bytes-l.ensures, c.args.r.now.given.fits.2)
 
 pub overflow_sub-t : goal.overflow_sub-t
-overflow_sub-t c = omega (arith, c.tag_bytes-t.ensures, c.requires.opens.given.fits.0)
+overflow_sub-t c = omega (arith, c.tag_bytes-t.ensures, c.args.r.now.given.fits.0)
 
 pub slice_bounds-tail-end : goal.slice_bounds-tail-end
 slice_bounds-tail-end c = omega (arith, c.full_tag-whole.type_inv.1.0.1)
 
 pub slice_bounds-tail-count-3 : goal.slice_bounds-tail-count-3
 slice_bounds-tail-count-3 c =
-    let first_there : c.first_bytes-l.result + tag_bytes c.args.p.tau ≤ length c.args.ciphertext.now = omega (arith, c.first_bytes-l.ensures, c.requires.tau_in_bounds) in
-    first-room _ _ _ _ _ first_there c.requires.opens.room c.cover-b.auto.out
+    let first_there : c.first_bytes-l.result + tag_bytes c.args.r.now.p.tau ≤ length c.args.ciphertext.now = omega (arith, c.first_bytes-l.ensures, c.requires.longer_than_first) in
+    first-room _ _ _ _ _ first_there c.requires.room c.cover-b.auto.out
 
 pub slice_bounds-tail-start-3 : goal.slice_bounds-tail-start-3
 slice_bounds-tail-start-3 c =
-    let first_there : c.first_bytes-l.result + tag_bytes c.args.p.tau ≤ length c.args.ciphertext.now = omega (arith, c.first_bytes-l.ensures, c.requires.tau_in_bounds) in
-    first-room _ _ _ _ _ first_there c.requires.opens.room c.cover-b.auto.out
+    let first_there : c.first_bytes-l.result + tag_bytes c.args.r.now.p.tau ≤ length c.args.ciphertext.now = omega (arith, c.first_bytes-l.ensures, c.requires.longer_than_first) in
+    first-room _ _ _ _ _ first_there c.requires.room c.cover-b.auto.out
 
 pub tail-requires : goal.tail-requires
 tail-requires c =
-    let first_there : c.first_bytes-l.result + tag_bytes c.args.p.tau ≤ length c.args.ciphertext.now = omega (arith, c.first_bytes-l.ensures, c.requires.tau_in_bounds) in
-    let f = tag_fits c.requires.opens.given.fits.0 in
+    let first_there : c.first_bytes-l.result + tag_bytes c.args.r.now.p.tau ≤ length c.args.ciphertext.now = omega (arith, c.first_bytes-l.ensures, c.requires.longer_than_first) in
+    let f = tag_fits c.args.r.now.given.fits.0 in
     let s = tag-size c.full_tag-whole.result c.tag_bytes-t.result c.full_tag-whole.type_inv.1.0.1 (rw c.tag_bytes-t.ensures f) in
-    record { encrypts = c.requires.encrypts; ends = rw (s, rest-size c.args.ciphertext.now) (ends-after (length c.args.ciphertext.now) _ c.ending_of-e.ensures.ends); tag_len_bound = rw (s, c.tag_bytes-t.ensures) f; rest_in_bounds = rw (s, rest-size c.args.ciphertext.now, rest-size _) (omega (arith, c.tag_bytes-t.ensures, c.cover-b.auto.out, first_there, c.requires.opens.room)) }
+    record { ends = rw (s, rest-size c.args.ciphertext.now) (ends-after (length c.args.ciphertext.now) _ c.ending_of-end.ensures.ends); tag_len_bound = rw (s, c.tag_bytes-t.ensures) f; rest_in_bounds = rw (s, rest-size c.args.ciphertext.now, rest-size _) (omega (arith, c.tag_bytes-t.ensures, c.cover-b.auto.out, first_there, c.requires.room)) }
 
 pub returns : goal.returns
 returns c =
-    let first_there : c.first_bytes-l.result + tag_bytes c.args.p.tau ≤ length c.args.ciphertext.now = omega (arith, c.first_bytes-l.ensures, c.requires.tau_in_bounds) in
+    let first_there : c.first_bytes-l.result + tag_bytes c.args.r.now.p.tau ≤ length c.args.ciphertext.now = omega (arith, c.first_bytes-l.ensures, c.requires.longer_than_first) in
     let there = first_there in
     let s = take-size c.first_bytes-l.result c.args.ciphertext.now (omega arith) in
-    let f = tag_fits c.requires.opens.given.fits.0 in
-    let T = first-tag (cipher c.args.key.now) c.args.p.tau c.args.p.capacity c.args.nonce.now (data_tag c.args.p c.args.sum) _ _ c.full_tag-whole.result c.cover-b.ensures.data_is c.cover-b.ensures.data_size (omega arith) f c.full_tag-whole.ensures in
-    long-turn (cipher c.args.key.now) (inv_cipher c.args.key.now) c.args.p.tau c.args.p.capacity c.args.nonce.now (data_tag c.args.p c.args.sum) c.tail.new.out
+    let f = tag_fits c.args.r.now.given.fits.0 in
+    let T = first-tag (cipher c.args.e.now) c.args.r.now.p.tau c.args.r.now.p.capacity c.args.r.now.nonce.now (data_tag c.args.r.now.p c.args.r.now.sum) _ _ c.full_tag-whole.result c.cover-b.ensures.data_is c.cover-b.ensures.data_size (omega arith) f c.full_tag-whole.ensures in
+    long-turn (cipher c.args.e.now) (inv_cipher c.args.e.now) c.args.r.now.p.tau c.args.r.now.p.capacity c.args.r.now.nonce.now (data_tag c.args.r.now.p c.args.r.now.sum) c.tail.new.out
     (record {
       bits = c.first_bytes-l.ensures;
       tags = c.tag_bytes-t.ensures;
       longer = omega arith;
-      room = omega (arith, c.requires.opens.room);
+      room = omega (arith, c.requires.room);
       at_most = f;
       head = c.cover-b.ensures.written;
       kept = c.cover-b.auto.out;
@@ -84,7 +84,7 @@ returns c =
       start = c.cover-b.ensures.offset-is;
     })
     there
-    c.ending_of-e.ensures.form
-    c.ending_of-e.ensures.ends
+    c.ending_of-end.ensures.form
+    c.ending_of-end.ensures.ends
     c.tail.ensures
     c.tail.auto.out

@@ -6,9 +6,6 @@ use Rattle.fips197.specs.Cipher.{cipher}
 use Rattle.cba_mode.specs.Open.{joined_plain}
 use Rattle.cba_opening.proofs.joined.joined_plain.Goals as goal
 
-pub encrypt-requires : goal.encrypt-requires
-encrypt-requires c = c.requires
-
 pub returns : goal.returns
 unfolding joined_plain
 returns c =

@@ -17,6 +17,6 @@ mask-requires c = record { s_bound = simp length-take (omega (arith, c.requires.
 
 pub returns : goal.returns
 returns c =
-    let block = c.encrypt-e.ensures ∙ ap (cipher _) (c.xor_block.ensures ∙ ap (xors _) c.step_block.ensures) in
-    joined-rest-turn (cipher c.args.key.now) (inv_cipher c.args.key.now) (halves_of c.args.offset) c.args.m c.args.c.now c.args.tag.now c.args.out.now c.encrypt-e.result _ _
-    block c.encrypt-e.type_inv.1.0.1 c.requires.c_len_bound c.mask.ensures c.joined_tag.ensures
+    let block = c.encrypt-block.ensures ∙ ap (cipher _) (c.xor_block.ensures ∙ ap (xors _) c.step_block.ensures) in
+    joined-rest-turn (cipher c.args.e.now) (inv_cipher c.args.e.now) (halves_of c.args.offset) c.args.m c.args.c.now c.args.tag.now c.args.out.now c.encrypt-block.result _ _
+    block c.encrypt-block.type_inv.1.0.1 c.requires.c_len_bound c.mask.ensures c.joined_tag.ensures

@@ -12,18 +12,18 @@ pub slice_bounds-last_block-end : goal.slice_bounds-last_block-end
 slice_bounds-last_block-end c = simp length-take (omega arith)
 
 pub last_block-requires : goal.last_block-requires
-last_block-requires c = record { encrypts = c.requires.encrypts; tag_len_bound = c.requires.tag_len_bound; last_len_bound = simp length-take (omega (arith, c.requires.rest_len_bound)); last_in_bounds = simp length-take (omega (arith, c.requires.rest_in_bounds)) }
+last_block-requires c = record { tag_len_bound = c.requires.tag_len_bound; last_len_bound = simp length-take (omega (arith, c.requires.rest_len_bound)); last_in_bounds = simp length-take (omega (arith, c.requires.rest_in_bounds)) }
 
 pub slice_bounds-tag_block-end-2 : goal.slice_bounds-tag_block-end-2
 slice_bounds-tag_block-end-2 c = simp length-take (omega (arith, c.last_block.auto.out, c.requires.rest_in_bounds))
 
 pub slice_bounds-same-end-2 : goal.slice_bounds-same-end-2
-slice_bounds-same-end-2 c = simp length-take (omega (arith, c.tag_block-e.type_inv.1.0.1, c.requires.tag_len_bound))
+slice_bounds-same-end-2 c = simp length-take (omega (arith, c.tag_block-block.type_inv.1.0.1, c.requires.tag_len_bound))
 
 pub same-requires : goal.same-requires
-same-requires c = simp (length-take, length-drop) (omega (arith, c.tag_block-e.type_inv.1.0.1, c.requires.tag_len_bound, c.requires.tag_in_bounds))
+same-requires c = simp (length-take, length-drop) (omega (arith, c.tag_block-block.type_inv.1.0.1, c.requires.tag_len_bound, c.requires.tag_in_bounds))
 
 pub returns : goal.returns
 returns c =
-    separate_end_turn (cipher c.args.key.now) (inv_cipher c.args.key.now) c.args.tag.now (halves_of c.args.s.offset) (block_of c.args.s.sum) c.args.rest.now c.args.out.now _ c.last_block.new.out _
-    c.requires.tag_in_bounds c.requires.rest_in_bounds c.last_block.ensures c.last_block.auto.out (rw c.write.ensures at c.tag_block-e.ensures) c.same.ensures
+    separate_end_turn (cipher c.args.e.now) (inv_cipher c.args.e.now) c.args.tag.now (halves_of c.args.s.offset) (block_of c.args.s.sum) c.args.rest.now c.args.out.now _ c.last_block.new.out _
+    c.requires.tag_in_bounds c.requires.rest_in_bounds c.last_block.ensures c.last_block.auto.out (rw c.write.ensures at c.tag_block-block.ensures) c.same.ensures

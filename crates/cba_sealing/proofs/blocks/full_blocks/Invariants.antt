@@ -1,14 +1,12 @@
--- `cba_sealing::blocks::full_blocks` meets its contract: after i blocks, two a turn, i blocks are sealed.
+-- `cba_sealing::blocks::full_blocks` meets its contract: after i turns of two blocks, 2 i blocks are done.
 -- Assumes nothing.
-use Prim.Native.Nat.{◌-◌}
-use Rattle.fips197.specs.Cipher.{cipher}
+use Prim.Native.Nat.{◌*◌}
 use Rattle.cba_steps.specs.Halves.{halves_of}
-use Rattle.cba_mode.specs.Seal.{checksum}
-use Rattle.cba_sealing.proofs.BlockLaws.{Going}
+use Rattle.cba_sealing.proofs.BlockLaws.{Going, sum_of}
 use Rattle.cba_sealing.proofs.blocks.full_blocks.Given as goal
 
 abbrev pub invariant-loop-i : goal.invariant-loop-i
-invariant-loop-i l = Going (cipher l.key) (checksum l.message) (halves_of l.initial.s.offset) l.message l.initial.out l.k l.i l.s l.out
-
-abbrev pub decreases-loop-i : goal.decreases-loop-i
-decreases-loop-i l = l.k - l.i
+invariant-loop-i g l =
+    let E = g.D.Direction.function l.d in
+    let Δ = halves_of l.initial.s.offset in
+    Going E (sum_of E g.D.Direction.seals Δ l.text) Δ l.text l.initial.out l.k (2 * l.i) l.s l.out

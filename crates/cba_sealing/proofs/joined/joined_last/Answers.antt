@@ -6,9 +6,6 @@ use Rattle.fips197.specs.Cipher.{cipher}
 use Rattle.cba_mode.specs.Seal.{joined_last}
 use Rattle.cba_sealing.proofs.joined.joined_last.Goals as goal
 
-pub encrypt-requires : goal.encrypt-requires
-encrypt-requires c = c.requires
-
 pub returns : goal.returns
 unfolding joined_last
 returns c =

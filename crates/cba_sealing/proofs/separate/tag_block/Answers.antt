@@ -8,9 +8,6 @@ use Rattle.cba_sealing.proofs.separate.tag_block.Goals as goal
 pub right_aligned-requires : goal.right_aligned-requires
 right_aligned-requires c = c.requires.tag_len_bound
 
-pub encrypt-requires : goal.encrypt-requires
-encrypt-requires c = c.requires.encrypts
-
 pub returns : goal.returns
 returns c =
     c.encrypt.ensures

@@ -11,11 +11,11 @@ use Rattle.cba_mode.specs.Data.{data_sum, L, data_hash}
 use Rattle.cba_steps.proofs.associated.data_hash.Goals as goal
 
 pub walk-requires : goal.walk-requires
-walk-requires c = record { encrypts = c.requires.encrypts; rest_bound = omega (arith, c.requires.ad_len_bound) }
+walk-requires c = omega (arith, c.requires)
 
 pub returns : goal.returns
 unfolding data_hash L
 returns c =
     c.walk.ensures
-    ∙ ap (λ (Δ : List ℕ). data_sum (cipher c.args.key.now) (replicate 16 0) Δ c.args.ad.now)
+    ∙ ap (λ (Δ : List ℕ). data_sum (cipher c.args.e.now) (replicate 16 0) Δ c.args.ad.now)
     (c.start-h.ensures ∙ ap (λ (l : List ℕ). start l 0) c.encrypt-l.ensures)

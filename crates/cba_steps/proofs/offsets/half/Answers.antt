@@ -5,4 +5,4 @@ use Rattle.cba_steps.proofs.WordLaws.{half-digits}
 use Rattle.cba_steps.proofs.offsets.half.Goals as goal
 
 pub returns : goal.returns
-returns c = half-digits _ _ _ _ (search rules) c.turned.ensures c.turned-2.ensures
+returns c = half-digits _ _ _ _ (search rules) (search rules) c.turned.ensures c.turned-2.ensures

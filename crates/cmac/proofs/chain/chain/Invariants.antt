@@ -1,12 +1,8 @@
 -- `cmac::chain::chain` meets its contract: after i turns X is that of the first i blocks.
 -- Assumes nothing.
-use Prim.Native.Nat.{◌-◌}
 use Rattle.fips197.specs.Cipher.{cipher}
 use Rattle.cmac.proofs.ChainLaws.{Chained}
 use Rattle.cmac.proofs.chain.chain.Given as goal
 
 abbrev pub invariant-loop-i : goal.invariant-loop-i
-invariant-loop-i l = Chained (cipher l.key) l.message l.n l.i l.x
-
-abbrev pub decreases-loop-i : goal.decreases-loop-i
-decreases-loop-i l = l.n - l.i
+invariant-loop-i l = Chained (cipher l.e) l.message l.n l.i l.x

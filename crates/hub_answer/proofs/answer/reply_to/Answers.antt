@@ -2,39 +2,28 @@
 -- Assumes nothing.
 use Prim.Native.Nat.{◌+◌, ◌≤◌}
 use borrow.Author.Rules.{rules}
-use borrow.Author.Tests.{not-true, not-false}
 use lib.ListN.{length}
 use Rattle.hub_grammar.proofs.Grammar.{parse-long}
-use Rattle.hub_answer.proofs.AnswerLaws.{reply_malformed, read-refused, read-sized, read-accepted}
+use Rattle.hub_answer.proofs.AnswerLaws.{reply_malformed, read-refused, read-sized, read-accepted, handed_on}
 use Rattle.hub_answer.proofs.answer.reply_to.Goals as goal
 
 pub returns-then-line-gt-LINE_LIMIT : goal.returns-then-line-gt-LINE_LIMIT
-returns-then-line-gt-LINE_LIMIT c = reply_malformed (parse-long c.args.line.now (search rules)) c.malformed.ensures
+returns-then-line-gt-LINE_LIMIT c = reply_malformed c.args.res.now (parse-long c.args.line.now (search rules))
 
-pub returns-then-not-a : goal.returns-then-not-a
-returns-then-not-a c = reply_malformed (c.read_line-a.ensures.malformed-is (not-true _ c.if-not-a.true)) c.malformed-then-not-a.ensures
+pub returns-in_default : goal.returns-in_default
+returns-in_default c = reply_malformed c.args.res.now c.in_default.ensures.0
 
-pub call-answer-requires : goal.call-answer-requires
-call-answer-requires c = c.read_line-a.ensures.ordered (not-false _ c.if-not-a.false)
+pub returns-in_err-call : goal.returns-in_err-call
+returns-in_err-call c =
+    let room : length c.read_line.new.bytes + 16 ≤ length c.args.res.now = search rules in
+    handed_on c.from_residual.result c.in_err-call.field-0.0 c.from_residual.ensures.1 (read-refused c.in-Some.ensures room _ c.in_err-call.ensures)
 
-pub returns-then-answer-ne0 : goal.returns-then-answer-ne0
-returns-then-answer-ne0 c =
-    let room : length c.read_line-a.new.bytes + 16 ≤ length c.args.res.now = search rules in
-    let good = not-false _ c.if-not-a.false in
-    read-refused c.read_line-a.ensures good room c.call-answer.ensures c.if-answer-ne0.true c.refused.ensures
-
-pub overflow_sub-a : goal.overflow_sub-a
-overflow_sub-a c = (c.read_line-a.ensures.ordered (not-false _ c.if-not-a.false)).2
-
-pub result_bytes-requires : goal.result_bytes-requires
-result_bytes-requires c =
-    let room : length c.read_line-a.new.bytes + 16 ≤ length c.args.res.now = search rules in
-    let good = not-false _ c.if-not-a.false in
-    let o = (c.read_line-a.ensures.ordered good).3 in
-    record { sized = read-sized c.read_line-a.ensures good room c.call-answer.ensures c.if-answer-ne0.false; text_le_bytes_room = search (rules, o) }
+pub result_bytes-requires-clause-sized : goal.result_bytes-requires-clause-sized
+result_bytes-requires-clause-sized c =
+    let room : length c.read_line.new.bytes + 16 ≤ length c.args.res.now = search rules in
+    read-sized c.in-Some.ensures room c.in_ok-call.ensures
 
 pub returns : goal.returns
 returns c =
-    let room : length c.read_line-a.new.bytes + 16 ≤ length c.args.res.now = search rules in
-    let good = not-false _ c.if-not-a.false in
-    read-accepted c.read_line-a.ensures good room c.call-answer.ensures c.if-answer-ne0.false c.result_bytes.ensures (search rules)
+    let room : length c.read_line.new.bytes + 16 ≤ length c.args.res.now = search rules in
+    read-accepted c.in-Some.ensures room c.in_ok-call.ensures c.result_bytes.ensures (search rules)

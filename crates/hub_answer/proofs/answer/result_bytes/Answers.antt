@@ -8,12 +8,3 @@ pub overflow_add-result : goal.overflow_add-result
 overflow_add-result c =
     let m = tag-most c.args.set c.requires.sized.is-set in
     search (rules, m)
-
-pub returns-then-seals : goal.returns-then-seals
-returns-then-seals c = rw (c.if-seals.true, c.set_tag-t.ensures)
-
-pub overflow_sub-result : goal.overflow_sub-result
-overflow_sub-result c = rw c.set_tag-t.ensures (c.requires.sized.long c.if-seals.false)
-
-pub returns : goal.returns
-returns c = rw (c.if-seals.false, c.set_tag-t.ensures)

@@ -1,16 +1,19 @@
--- `hub_text::cut::length_before` meets its contract: no x stands before place i.
+-- `hub_text::cut::length_before` meets its contract.
 -- Assumes nothing.
-use Rattle.hub_text.proofs.CutLaws.{sought_none, sought_turn, sought_here, sought_all}
+use mathlib.Core.Path.{◌∙◌}
+use native.Mathlib.Omega.{arith}
+use borrow.Author.Rules.{rules}
+use borrow.Author.Tests.{tests}
+use lib.Dec.{eqb}
+use Rattle.std.proofs.lemmas.Iterator.{YieldsList-from_slice}
+use Rattle.std.proofs.lemmas.Iterator.Search.{position_from_yields_List}
+use Rattle.hub_text.proofs.CutLaws.{before-found, before-most}
 use Rattle.hub_text.proofs.cut.length_before.Goals as goal
 
-pub loop-i-init : goal.loop-i-init
-loop-i-init c = sought_none _ _
-
-pub returns-then-s-i : goal.returns-then-s-i
-returns-then-s-i c = sought_here c.loop-i.invariant c.loop-i-test.true c.if-s-i.true
-
-pub loop-i-preserved : goal.loop-i-preserved
-loop-i-preserved c = sought_turn c.loop-i.invariant c.loop-i-test.true c.if-s-i.false
-
 pub returns : goal.returns
-returns c = sought_all c.loop-i.invariant c.loop-i-test.false
+returns c =
+    let s = c.args.s.now in
+    let x = c.args.x in
+    let found = position_from_yields_List (λ y. eqb y x) _ _ c.position.result c.position.ensures.ran (YieldsList-from_slice s cc) (λ y b q k. search (rules, tests)) in
+    let e = c.unwrap_or.ensures ∙ before-found x s _ found in
+    (e, omega (arith, e, before-most x s))

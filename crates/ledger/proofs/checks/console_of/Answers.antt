@@ -1,7 +1,10 @@
 -- `ledger::checks::console_of` meets its contract.
 -- Assumes nothing.
-use Rattle.ledger.proofs.CheckLaws.{console-start}
+use Rattle.std.proofs.Common.{◌≡◌, length, rules, ◌∙◌}
+use Rattle.ledger.proofs.CheckLaws.{console_start}
 use Rattle.ledger.proofs.checks.console_of.Goals as goal
 
 pub returns : goal.returns
-returns c = console-start c.args.nonce.now c.requires
+returns c =
+    let whole : length c.args.nonce.now ≡ 12 = search rules in
+    c.from_be_bytes.ensures ∙ console_start c.args.nonce.now whole

@@ -1,7 +1,6 @@
 -- `ledger::headings::name_check` meets its contract.
 -- Assumes nothing.
-use mathlib.Core.Path.{ap}
-use mathlib.Core.Bool.{not}
+use Rattle.std.proofs.Common.{not, ap}
 use Rattle.ledger.proofs.HeadingLaws.{name-refused, name-passed}
 use Rattle.ledger.proofs.headings.name_check.Goals as goal
 

@@ -1,8 +1,7 @@
 -- `ledger::ledger::begin` meets its contract.
 -- Assumes nothing.
-use mathlib.Core.Path.{refl}
-use Rattle.ledger.proofs.ValueLaws.{fresh-key}
+use Rattle.ledger.proofs.ValueLaws.{begin_is}
 use Rattle.ledger.proofs.ledger.begin.Goals as goal
 
 pub returns : goal.returns
-returns c = rw (fresh-key c.args.key.now c.put.ensures) refl
+returns c = begin_is c.args.set c.args.key.now c.args.console c.put.ensures c.default.ensures

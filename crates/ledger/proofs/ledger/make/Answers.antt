@@ -1,24 +1,29 @@
 -- `ledger::ledger::make` meets its contract.
 -- Assumes nothing.
-use mathlib.Core.Path.{sym, ◌∙◌}
-use native.Mathlib.Omega.{arith}
-use Rattle.ledger.proofs.CallLaws.{refused-making, accepted-making, make_unknown, make_known, made-key}
+use Rattle.std.proofs.Common.{sym, ◌∙◌}
+use Rattle.answers.proofs.RefusalLaws.{refusal_not_zero}
+use Rattle.plain.proofs.SetLaws.{key-limit}
+use Rattle.ledger_rules.specs.Ledger.{make_rows, make_answer}
+use Rattle.ledger_rules.proofs.LedgerLaws.{made_none, made-fresh}
 use Rattle.ledger.proofs.ledger.make.Goals as goal
 
-pub returns-in_default : goal.returns-in_default
-returns-in_default c = let given = refused-making c.args.set c.args.key.now c.args.console _ 1 (make_unknown c.args.set c.args.key.now (sym c.lookup.ensures.case_is ∙ c.in_default.is)) (λ z. omega (arith, z)) c.none.ensures in record { answer_value = given.0; ledger_value = given.1 }
+pub begin-ledger-requires : goal.begin-ledger-requires
+unfolding make_rows
+begin-ledger-requires c = key-limit c.args.set _ (sym c.in-Ok.ensures)
 
-pub returns-then-refusal-ne0 : goal.returns-then-refusal-ne0
-returns-then-refusal-ne0 c =
-    let h = sym c.lookup.ensures.case_is ∙ c.in-Known.is in
-    let given = refused-making c.args.set c.args.key.now c.args.console _ _ (c.key_check-refusal.ensures ∙ make_known c.args.set _ c.args.key.now h) c.if-refusal-ne0.true c.none-then-refusal-ne0.ensures in record { answer_value = given.0; ledger_value = given.1 }
+pub returns-in-Ok-clause-answer_value : goal.returns-in-Ok-clause-answer_value
+unfolding make_rows make_answer
+returns-in-Ok-clause-answer_value c = c.set_key_checks-answer.ensures
 
-pub begin-requires : goal.begin-requires
-begin-requires c =
-    let h = sym c.lookup.ensures.case_is ∙ c.in-Known.is in
-    made-key c.args.set c.args.key.now (sym (make_known c.args.set _ c.args.key.now h) ∙ sym c.key_check-refusal.ensures ∙ c.if-refusal-ne0.false)
+pub returns-in-Ok-clause-ledger_value : goal.returns-in-Ok-clause-ledger_value
+unfolding make_rows make_answer
+returns-in-Ok-clause-ledger_value c = c.begin-ledger.ensures ∙ sym (made-fresh c.args.set c.args.key.now c.args.console (sym c.in-Ok.ensures))
 
-pub returns : goal.returns
-returns c =
-    let h = sym c.lookup.ensures.case_is ∙ c.in-Known.is in
-    let given = accepted-making c.args.set c.args.key.now c.args.console _ (sym (make_known c.args.set _ c.args.key.now h) ∙ sym c.key_check-refusal.ensures ∙ c.if-refusal-ne0.false) c.begin.ensures in record { answer_value = given.0; ledger_value = given.1 }
+pub returns-in-Err-clause-answer_value : goal.returns-in-Err-clause-answer_value
+unfolding make_rows make_answer
+returns-in-Err-clause-answer_value c = c.set_key_checks-answer.ensures
+
+pub returns-in-Err-clause-ledger_value : goal.returns-in-Err-clause-ledger_value
+unfolding make_rows make_answer
+returns-in-Err-clause-ledger_value c =
+    c.default-ledger.ensures ∙ sym (made_none c.args.set c.args.key.now c.args.console (λ z. refusal_not_zero _ (c.in-Err.ensures ∙ z)))

@@ -1,13 +1,12 @@
--- `octets::compare::same` meets its contract: after i turns the first i bytes are compared.
--- Assumes nothing.
-use Rattle.octets.proofs.CompareLaws.{compared-none, compared-turn, compared-all}
+-- `octets::compare::same` meets its contract.
+use Rattle.std.proofs.Common.{arith, rules}
+use Rattle.octets.proofs.CompareLaws.{one_more, none_more}
 use Rattle.octets.proofs.compare.same.Goals as goal
 
-pub loop-i-init : goal.loop-i-init
-loop-i-init c = compared-none
-
-pub loop-i-preserved : goal.loop-i-preserved
-loop-i-preserved c = compared-turn c.loop-i.invariant c.requires c.loop-i-test.true
+pub loop-x-preserved : goal.loop-x-preserved
+loop-x-preserved c =
+    let steps = c.in-Some.ensures.steps in
+    (grind arith, one_more c.loop-x.differ c.in-Some.x.now c.in-Some.y.now steps.0 steps.1 c.loop-x.invariant.1)
 
 pub returns : goal.returns
-returns c = compared-all c.loop-i.invariant c.requires c.loop-i-test.false
+returns c = none_more _ _ c.loop-x.differ c.loop-x.invariant.0 (search rules) c.loop-x.invariant.1

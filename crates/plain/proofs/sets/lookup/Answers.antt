@@ -1,15 +1,17 @@
 -- `plain::sets::lookup` meets its contract: the constant rows are those of the definition.
 -- Assumes nothing.
-use Rattle.cba_mode.specs.Sets.{column}
+use Rattle.std.proofs.Common.{arith, rules}
 use Rattle.plain.proofs.SetLaws.{below_set, above-set, known, unknown}
 use Rattle.plain.proofs.sets.lookup.Goals as goal
 
-pub returns-then-set-lt1 : goal.returns-then-set-lt1
-returns-then-set-lt1 c = unknown _ (below_set c.args.set c.if-set-lt1.true)
+pub returns-in_err-checked_sub : goal.returns-in_err-checked_sub
+returns-in_err-checked_sub c = rw c.from_residual.ensures (unknown _ (below_set c.args.set (omega (arith, c.in_err-checked_sub.ensures))))
 
-pub returns-then-set-gt10 : goal.returns-then-set-gt10
-returns-then-set-gt10 c = unknown _ (above-set c.args.set c.if-set-lt1.false c.if-set-gt10.true)
+pub returns-in_err-key : goal.returns-in_err-key
+returns-in_err-key c =
+    rw c.from_residual-in_err-key.ensures
+    (unknown _ (above-set c.args.set c.in_ok-checked_sub.ensures.0 (omega (arith, c.in_ok-checked_sub.ensures, c.in_err-key.ensures.lookup.3))))
 
 pub returns : goal.returns
-unfolding column
-returns c = known c.args.set c.if-set-lt1.false c.if-set-gt10.false
+returns c =
+    known c.args.set c.in_ok-checked_sub.field-0 c.in_ok-key.field-0.now c.in_ok-checked_sub.ensures (search rules) c.in_ok-key.ensures.lookup.1

@@ -1,18 +1,13 @@
 -- `receiver::nonce::prefix_of` meets its contract.
 -- Assumes nothing.
-use mathlib.Core.Path.{sym}
-use native.Mathlib.Omega.{arith}
-use lib.ListN.{length-take}
-use lib.Seq.{length-take-le}
+use Rattle.std.proofs.Common.{◌≡◌, length, rules, ap, ◌∙◌}
+use Rattle.octets.specs.Numbers.{number}
 use Rattle.receiver_rules.specs.Receiver.{prefix_of}
+use Rattle.receiver.proofs.NonceLaws.{of_four}
 use Rattle.receiver.proofs.nonce.prefix_of.Goals as goal
-
-pub slice_bounds-big_endian-end : goal.slice_bounds-big_endian-end
-slice_bounds-big_endian-end c = sym (length-take-le 4 c.args.nonce.now (omega (arith, c.requires)))
-
-pub big_endian-requires : goal.big_endian-requires
-big_endian-requires c = simp length-take (omega arith)
 
 pub returns : goal.returns
 unfolding prefix_of
-returns c = c.big_endian.ensures
+returns c =
+    let whole : length c.copy_from_slice.new.self ≡ 4 = search rules in
+    c.from_be_bytes.ensures ∙ of_four _ whole ∙ ap number c.copy_from_slice.ensures.after

@@ -1,7 +1,8 @@
 -- `receiver::window::moved` meets its contract.
 -- Assumes nothing.
-use Rattle.receiver.proofs.MarkLaws.{all_lost}
+use Rattle.std.proofs.Common.{◌∙◌}
+use Rattle.receiver.proofs.MarkLaws.{moved_is}
 use Rattle.receiver.proofs.window.moved.Goals as goal
 
-pub returns-then-by-ge-REACH : goal.returns-then-by-ge-REACH
-returns-then-by-ge-REACH c = all_lost c.args.marks c.args.by c.if-by-ge-REACH.true
+pub returns : goal.returns
+returns c = c.unwrap_or.ensures ∙ moved_is c.args.marks c.args.by _ _ c.min.ensures c.checked_shl.ensures

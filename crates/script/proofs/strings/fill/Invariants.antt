@@ -1,10 +1,7 @@
-use Rattle.std.proofs.Common.{length, ◌-◌}
+use Rattle.std.proofs.Common.{length}
 use Rattle.octets.proofs.Strings.{Filled}
 use Rattle.script.specs.Strings.{seeded}
 use Rattle.script.proofs.strings.fill.Given as goal
 
 abbrev pub invariant-loop-i : goal.invariant-loop-i
 invariant-loop-i l = Filled (seeded l.seed) (length l.initial.s) l.initial.s l.i l.s
-
-abbrev pub decreases-loop-i : goal.decreases-loop-i
-decreases-loop-i l = length l.initial.s - l.i

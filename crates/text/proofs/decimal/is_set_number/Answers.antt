@@ -2,22 +2,22 @@
 -- Assumes nothing.
 use mathlib.Core.Path.{◌∙◌}
 use mathlib.Core.Logic.{inl, inr}
-use borrow.Author.Rules.{rules}
+use native.Mathlib.Omega.{arith}
 use Rattle.text.proofs.DecimalLaws.{set-none, set_long, set-zero, set-digits}
 use Rattle.text.proofs.decimal.is_set_number.Goals as goal
-use Rattle.text.proofs.decimal.is_set_number.Goals.{then-w-gt1+else-w-eq48, else-w-gt1}
 
-pub returns-then-w-eq0 : goal.returns-then-w-eq0
-returns-then-w-eq0 c = set-none _ c.if-w-eq0.true
+pub returns-in-1 : goal.returns-in-1
+returns-in-1 c = c.all_digits.ensures ∙ set-digits c.args.w.now (omega arith) (omega arith) (inl (omega arith))
 
-pub returns-then-w-gt3 : goal.returns-then-w-gt3
-returns-then-w-gt3 c = set_long _ c.if-w-gt3.true
+pub returns-then-w-ne48 : goal.returns-then-w-ne48
+returns-then-w-ne48 c =
+    c.all_digits-then-w-ne48.ensures ∙ set-digits c.args.w.now (omega arith) (omega arith) (inr c.if-w-ne48.true)
 
-pub returns-then-w-eq48 : goal.returns-then-w-eq48
-returns-then-w-eq48 c = set-zero _ c.if-w-gt1.true c.if-w-eq48.true
+pub returns-else-w-ne48 : goal.returns-else-w-ne48
+returns-else-w-ne48 c = rw c.if-w-ne48.false (set-zero c.args.w.now (omega arith) c.if-w-ne48.false)
 
-pub returns : goal.returns
-returns c =
-    c.all_digits.ensures
-    ∙ set-digits c.args.w.now (search rules) c.if-w-gt3.false
-    (elim c.if-w-gt1.branch [ then-w-gt1+else-w-eq48 w ↦ inr w.if-w-eq48.false | else-w-gt1 w ↦ inl w.if-w-gt1.false ])
+pub returns-in_default : goal.returns-in_default
+returns-in_default c = set-none c.args.w.now (omega arith)
+
+pub returns-in_default-2 : goal.returns-in_default-2
+returns-in_default-2 c = set_long c.args.w.now (omega arith)

@@ -1,26 +1,18 @@
--- `text::hex::are_hex_pairs` meets its contract: after i turns the first i pairs are digits.
+-- `text::hex::are_hex_pairs` meets its contract.
 -- Assumes nothing.
-use mathlib.Core.Path.{sym, ◌∙◌}
-use Rattle.text.proofs.HexLaws.{paired_none, paired_turn, paired_first, paired_second, paired_all}
+use mathlib.Core.Path.{◌∙◌}
+use borrow.Author.Rules.{rules}
+use borrow.Author.Tests.{tests, eq-eqb, ne_eqb}
+use Rattle.std.proofs.lemmas.Iterator.{YieldsList-from_slice}
+use Rattle.std.proofs.lemmas.Iterator.Search.{all_from_yields_List}
+use Rattle.text.specs.Numerals.{is_hex_digit}
+use Rattle.text.proofs.HexLaws.{all_pairs, odd_pairs}
 use Rattle.text.proofs.hex.are_hex_pairs.Goals as goal
 
-pub loop-i-init : goal.loop-i-init
-loop-i-init c = paired_none _
+pub returns-then-w-eq0 : goal.returns-then-w-eq0
+returns-then-w-eq0 c =
+    all_from_yields_List is_hex_digit _ _ _ c.all.ensures.ran (YieldsList-from_slice c.args.w.now cc) (λ x b q k. search (rules, tests))
+    ∙ all_pairs c.args.w.now (eq-eqb _ 0 c.if-w-eq0.true)
 
-pub returns-then-not-is_hex_digit : goal.returns-then-not-is_hex_digit
-returns-then-not-is_hex_digit c = paired_first c.loop-i.invariant c.loop-i-test.true (sym c.is_hex_digit.ensures ∙ c.if-not-is_hex_digit.true)
-
-pub returns-then-not-is_hex_digit-2 : goal.returns-then-not-is_hex_digit-2
-returns-then-not-is_hex_digit-2 c =
-    paired_second c.loop-i.invariant c.loop-i-test.true
-    (sym c.is_hex_digit.ensures ∙ c.if-not-is_hex_digit.false)
-    (sym c.is_hex_digit-in-loop-i.ensures ∙ c.if-not-is_hex_digit-2.true)
-
-pub loop-i-preserved : goal.loop-i-preserved
-loop-i-preserved c =
-    paired_turn c.loop-i.invariant c.loop-i-test.true
-    (sym c.is_hex_digit.ensures ∙ c.if-not-is_hex_digit.false)
-    (sym c.is_hex_digit-in-loop-i.ensures ∙ c.if-not-is_hex_digit-2.false)
-
-pub returns : goal.returns
-returns c = paired_all c.loop-i.invariant c.loop-i-test.false
+pub returns-else-w-eq0 : goal.returns-else-w-eq0
+returns-else-w-eq0 c = rw (ne_eqb _ 0 c.if-w-eq0.false) (odd_pairs c.args.w.now c.if-w-eq0.false)

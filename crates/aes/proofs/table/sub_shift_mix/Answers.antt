@@ -1,7 +1,0 @@
--- `aes::table::sub_shift_mix` meets its contract.
--- Assumes nothing.
-use Rattle.aes.proofs.TableLaws.{mix-block}
-use Rattle.aes.proofs.table.sub_shift_mix.Goals as goal
-
-pub returns : goal.returns
-returns c = mix-block c.args.t.now c.requires c.args.k _ _ _ _ c.mixed.ensures c.mixed-2.ensures c.mixed-3.ensures c.mixed-4.ensures
