@@ -1,13 +1,14 @@
 // The full blocks of a message or a ciphertext, two at a time: the block function of two blocks takes
 // less than twice the time of one. They go as words, from the text to the output.
-ghost use Rattle.std.specs.Prelude.{◌≡◌, ◌++◌, ◌*◌, ◌≤◌, length};
+ghost use Rattle.std.specs.Prelude.{◌≡◌, true, ◌++◌, ◌*◌, ◌≤◌, length};
 ghost use Rattle.octets.specs.Strings.{over};
+ghost use Rattle.fips197.specs.Cipher.{cipher};
 ghost use Rattle.aes_schedule.specs.Words.{block_of};
 ghost use Rattle.cba_steps.specs.Halves.{halves_of};
 ghost use Rattle.cba_sealing.specs.Calls.{through, Through, More, Blocks};
 
 use crate::direction::Direction;
-use aes::Pair;
+use aes::{Encryption, Pair};
 use aes_schedule::{Words, read, words_at, write};
 use cba_steps::{Halves, doubled, words};
 
@@ -84,9 +85,7 @@ fn two_blocks<D: Direction>(d: &D, s: Running, text: &[u8], out: &mut [u8]) -> R
 }
 
 // The first k blocks of a text through the block function, over the first bytes of out, from the
-// offset before them. A function of its own in the machine code too: inside a larger one the rounds
-// may find too few registers.
-#[inline(never)]
+// offset before them.
 pub fn full_blocks<D: Direction>(
     d: &D,
     start: Halves,
@@ -111,4 +110,21 @@ pub fn full_blocks<D: Direction>(
         return one_block(d, s, &text[16 * done..], &mut out[16 * done..]);
     }
     s
+}
+
+// The same through E. A function of its own in the machine code too: inside a larger one its rounds
+// find too few registers. Those of opening do not, so `full_blocks` itself has no such mark.
+#[inline(never)]
+pub(crate) fn sealed_blocks(
+    e: &Encryption,
+    start: Halves,
+    message: &[u8],
+    k: usize,
+    out: &mut [u8],
+) -> Running
+    requires message_holds_k_blocks { 16 * k ≤ length message.now }
+    requires out_holds_k_blocks { 16 * k ≤ length out.old }
+    ensures { Blocks (cipher e.now) true start message.now out.old k result out.new }
+{
+    full_blocks(e, start, message, k, out)
 }

@@ -9,7 +9,7 @@ ghost use Rattle.cba_steps.specs.Halves.{halves_of};
 ghost use Rattle.cba_sealing.specs.Calls.{Seals, first_bytes, Tail, Enc};
 
 use crate::begin::{cover, full_tag};
-use crate::blocks::full_blocks;
+use crate::blocks::sealed_blocks;
 use crate::joined::joined_end;
 use crate::record::Record;
 use crate::separate::separate_end;
@@ -47,7 +47,7 @@ fn tail(e: &Encryption, end: Ending, tag: &[u8], offset: Halves, message: &[u8],
     ensures { Tail e.now end tag.now offset message.now out.old out.new }
 {
     let k = end.blocks();
-    let s = full_blocks(e, offset, message, k, out);
+    let s = sealed_blocks(e, offset, message, k, out);
     let rest = &message[16 * k..];
     match end {
         Ending::Joined { .. } => joined_end(e, tag, s, rest, &mut out[16 * k..]),

@@ -9,14 +9,16 @@ use std::marker::Model;
 pub const LINE_KEPT: usize = 4097;
 
 // The first len bytes are the line so far; beyond them is what earlier lines left.
-#[derive(Drop)]
+#[derive(Clone, Copy)]
 pub struct Line {
     pub bytes: [u8; LINE_KEPT],
     pub len: usize,
 }
 
 impl Model for Line {
-    ghost use Rattle.std.specs.Prelude.{◌≤◌, take};
+    ghost use Rattle.std.specs.Prelude.{◌≤◌, length, take};
+    ghost use mathlib.Core.Path.{ap};
+    ghost use lib.Seq.{length-take-le};
     ghost use Rattle.hub_rules.specs.Stream.{line_kept};
     ghost use Rattle.hub_run.specs.Held.{Kept};
 
@@ -24,7 +26,11 @@ impl Model for Line {
 
     ghost view = { λ l. record { line = take l.len l.bytes; bytes = l.bytes } };
 
-    ghost invariant = { λ l. l.len ≤ line_kept };
+    ghost invariant = { λ l. (l.len ≤ line_kept) × (l.len ≤ length l.bytes) };
+
+    ghost inverse = { λ k. record { bytes = k.bytes; len = length k.line } };
+
+    ghost inverse_ok = { λ l h. ap (λ n. record { bytes = l.bytes; len = n }) (length-take-le l.len l.bytes h.1) };
 }
 
 impl Line {

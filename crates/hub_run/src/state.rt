@@ -16,7 +16,7 @@ const LINES: u32 = 10000;
 // The lines that have ended, the first among them; whether that was another line than it must be; the
 // accepted lines of sets 1 to 10; the line so far.
 // `wrong` is a flag by itself, as in the definition of the state: no value goes with it.
-#[derive(Drop)]
+#[derive(Clone, Copy)]
 pub struct Hub {
     pub lines: u32,
     pub wrong: bool,
@@ -33,6 +33,8 @@ impl Model for Hub {
     ghost view = { λ h. value_of h.lines h.wrong h.counts h.line };
 
     ghost invariant = { λ h. Sound h.lines h.counts };
+
+    ghost inverse = { λ d. record { lines = d.state.lines; wrong = d.state.wrong; counts = d.state.counts; line = record { line = d.state.line; bytes = d.bytes } } };
 }
 
 impl Hub {

@@ -10,26 +10,24 @@ use lib.ListN.{length, take, drop}
 use Rattle.std.specs.Prelude.{Some, None, Result, Ok, Err, IsErrAnd}
 use Rattle.octets.specs.Strings.{over}
 use Rattle.octets.proofs.Parts.{size_of}
-use Rattle.answers.specs.Rows.{Row, answer, first_of, numbers, is_in, own_numbers}
+use Rattle.answers.specs.Rows.{Row, answer, first_of}
 use Rattle.answers.specs.declared.refusals.Refusal.{Refusal}
 use Rattle.answers.specs.Refusals.{number_of, number_of_refusal}
-use Rattle.answers.proofs.RowLaws.{accepts, two-parts}
-use Rattle.answers.proofs.RefusalLaws.{passed_first}
+use Rattle.answers.proofs.RowLaws.{two-parts}
 use Rattle.fips197.specs.Schedule.{is_key}
 use Rattle.fips197.specs.Cipher.{cipher}
 use Rattle.cba_mode.specs.Sets.{tag_bits, capacity, tag_bytes}
 use Rattle.cba_mode.specs.Seal.{seal_with}
-use Rattle.cba_rules.specs.Checks.{set_tag, bad_nonce, bad_start, message_rows}
+use Rattle.cba_rules.specs.Checks.{set_tag, message_rows}
 use Rattle.cba_rules.specs.Refusals.{seal_leaves, SealCall}
 use Rattle.cba_rules.proofs.SetLaws.{set-fits, set_key}
-use Rattle.cba_rules.proofs.RefusalLaws.{has_length}
 use Rattle.cba_sealing.specs.Calls.{Seals, Enc}
 use Rattle.cba_steps.specs.declared.parameters.Parameters.{Parameters}
 use Rattle.plain.specs.Lookup.{lookup_of}
 use Rattle.plain.proofs.SetLaws.{is_known, its_values, its_key, its_tag, unknown-answers}
 use Rattle.ledger.specs.declared.ledger.Ledger as code
 use Rattle.ledger.specs.Values.{after}
-use Rattle.ledger_rules.specs.Ledger.{Ledger, key_of, console_of, nonce_rows, stale, charge_by, spent, own_rows, heading_at, Source, source_row, seal_charge, ledger_checks, ledger_rows, ledger_answer, charged, ledger_sealing, ledger_output, LedgerCall, carry_rows, carry_answer, with_charge, CarryCall}
+use Rattle.ledger_rules.specs.Ledger.{Ledger, key_of, nonce_rows, stale, charge_by, spent, own_rows, heading_at, Source, source_row, seal_charge, ledger_checks, ledger_rows, ledger_answer, charged, ledger_sealing, ledger_output, LedgerCall, carry_rows, carry_answer, with_charge, CarryCall}
 use Rattle.ledger_rules.specs.Ledger.Source.{given, named}
 use Rattle.ledger_rules.proofs.LedgerLaws.{own-checks, in_groups, ledger_known, ledger_accepted, ledger_refused, ledger_done, given-plain, carried-refused, carried-accepted}
 
@@ -40,13 +38,6 @@ handed_back P (Ok a) x e p = absurd e
 handed_back {l} P (Err y) x e p = subst (λ (z : Refusal). P (number_of_refusal z) l) (sym e) p
 
 -- ---- sealing
-
--- the checks of a nonce that has its length are that of its start
-pub start_is : {a x : ℕ} (console : ℕ) (N : List ℕ) → length N ≡ 12 → x ≡ console_of N → a ≡ answer (bad_start console x ∷ []) → a ≡ answer (nonce_rows console N)
-unfolding numbers is_in own_numbers
-start_is console N l p e =
-    passed_first (bad_nonce (length N) ∷ []) (bad_start console (console_of N) ∷ []) refl (sym (accepts (bad_nonce (length N) ∷ []) (has_length _ 12 l, tt)))
-    (e ∙ ap (λ (y : ℕ). answer (bad_start console y ∷ [])) p)
 
 -- the checks in their groups, by p's t, with source the answer of the data
 module _ (l : Ledger) (p : Parameters) (known : lookup_of l.set ≡ Some p) (N : List ℕ) (source message room : ℕ) where

@@ -8,7 +8,7 @@ ghost use Rattle.ledger.specs.Values.{first_checks};
 
 use answers::Refusal;
 use cba_steps::Parameters;
-use plain::{message_check, start_check};
+use plain::{message_check, start_check, whole_nonce};
 
 // The console number that a nonce begins with, big-endian.
 fn console_of(nonce: &[u8; 12]) -> u16
@@ -32,9 +32,7 @@ fn nonce_checks(console: u16, nonce: &[u8]) -> Result<&[u8; 12], Refusal>
     ensures answer_value { number_of result ≡ answer (nonce_rows console nonce.now) }
     ensures nonce_value { IfOk result (λ n. n.now ≡ nonce.now) }
 {
-    let Some(whole) = nonce.as_array() else {
-        return Err(Refusal::Nonce);
-    };
+    let whole = whole_nonce(nonce)?;
     start_check(console as u64, console_of(whole) as u64)?;
     Ok(whole)
 }
@@ -73,13 +71,13 @@ pub(crate) fn charge(heartbeats: bool, ad: usize, message: usize) -> u64
     (blocks(ad) + blocks(message)).max(heartbeats as u64)
 }
 
-// Whether a charge goes into what is left of the capacity.
+// Whether a charge goes into what is left of the capacity. The sum is not formed: it might not fit.
 pub(crate) fn fits(total: u64, charge: u64, capacity: u8) -> bool
     requires { capacity ≤ 48 }
     ensures { result ≡ not (ltb (2 ^ capacity) (total + charge)) }
 {
-    let Some(sum) = total.checked_add(charge) else {
+    let Some(left) = (1u64 << capacity).checked_sub(total) else {
         return false;
     };
-    sum <= 1 << capacity
+    charge <= left
 }

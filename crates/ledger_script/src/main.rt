@@ -34,7 +34,7 @@ ghost use Rattle.ledger_script.specs.Records.{made_by, put_by, held_by, kept_by,
 use crate::call::Call;
 use crate::lines::{print_ledger, print_outcome, print_sealed};
 use ledger::{Heading, Ledger, NOTHING, Outcome};
-use script::{Record, each_record, fill};
+use script::{Record, fill, next_record};
 
 // What the calls' strings are made in.
 #[derive(Drop)]
@@ -204,15 +204,19 @@ fn step(rt: &impl Print, l: Ledger, r: &Record, b: &mut Buffers) -> Ledger {
     }
 }
 
-// The other script program has its like: what they share is `each_record`.
+// Up to a million records. The other script program has its like: what they share is `next_record`.
 fn main(rt: HostRuntime) {
+    let mut input = rt.stdin();
     let mut b = Buffers {
         ad: &mut [0u8; 8192],
         message: &mut [0u8; 66000],
         out: &mut [0u8; 66000],
     };
     let mut l = hand_made(&Record { bytes: [0; 64] });
-    each_record(&mut rt.stdin(), |_, r| {
-        l = step(&rt, l, r, &mut b);
-    });
+    for _ in 0..1000000 {
+        let Some(r) = next_record(&mut input) else {
+            return;
+        };
+        l = step(&rt, l, &r, &mut b);
+    }
 }

@@ -2,7 +2,7 @@
 // call puts its groups together by `?`, in the order of its rows.
 #![tactic(auto, unfolding(answers::specs::Rows::answer))]
 
-ghost use Rattle.std.specs.Prelude.{◌≡◌, [], ◌∷◌, ◌/◌};
+ghost use Rattle.std.specs.Prelude.{◌≡◌, [], ◌∷◌, ◌/◌, IfOk, length};
 ghost use Rattle.answers.specs.Rows.{answer};
 ghost use Rattle.answers.specs.Refusals.{number_of};
 ghost use Rattle.cba_mode.specs.Sets.{tag_bytes};
@@ -45,6 +45,16 @@ pub fn nonce_check(nonce: usize) -> Result<(), Refusal>
         return Err(Refusal::Nonce);
     }
     Ok(())
+}
+
+// The same check of a nonce that is given, which the Ok has. After it there are 12 bytes, and so no
+// second refusal.
+pub fn whole_nonce(nonce: &[u8]) -> Result<&[u8; 12], Refusal>
+    ensures answer_value { number_of result ≡ answer (bad_nonce (length nonce.now) ∷ []) }
+    ensures nonce_value { IfOk result (λ n. n.now ≡ nonce.now) }
+{
+    nonce_check(nonce.len())?;
+    nonce.as_array().ok_or(Refusal::Nonce)
 }
 
 // The number that a nonce begins with.

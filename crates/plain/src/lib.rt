@@ -9,7 +9,7 @@ mod sets;
 
 pub use checks::{
     MOST_DATA, ad_check, ciphertext_check, key_check, message_check, nonce_check, set_key_checks,
-    start_check,
+    start_check, whole_nonce,
 };
 pub use open::open_plain;
 pub use seal::seal_plain;

@@ -13,18 +13,16 @@ use Rattle.answers.specs.declared.refusals.Refusal.{Refusal}
 use Rattle.answers.specs.Refusals.{number_of_refusal}
 use Rattle.octets.specs.Strings.{over}
 use Rattle.octets.proofs.Strings.{drop-replicate}
-use Rattle.answers.proofs.RowLaws.{refuses, accepts, listed, stops, goes_on}
-use Rattle.answers.proofs.RefusalLaws.{passed_first}
+use Rattle.answers.proofs.RowLaws.{refuses, listed, stops, goes_on}
 use Rattle.cba_mode.specs.Sets.{tag_bytes}
 use Rattle.cba_mode.specs.Open.{is_false}
-use Rattle.cba_rules.specs.Checks.{set_tag, bad_nonce, bad_start, forged}
+use Rattle.cba_rules.specs.Checks.{set_tag, forged}
 use Rattle.cba_rules.specs.Refusals.{opening, OpenCall}
-use Rattle.cba_rules.proofs.RefusalLaws.{has_length}
 use Rattle.cba_steps.specs.declared.parameters.Parameters.{Parameters}
 use Rattle.plain.specs.Lookup.{lookup_of}
 use Rattle.plain.proofs.SetLaws.{its_key, its_tag, unknown-answers, known-goes_on}
 use Rattle.window_rules.specs.Window.{Window, is_repeat, recorded}
-use Rattle.receiver_rules.specs.Receiver.{Receiver, no_window, begin, key_of, prefix_of, counter_of, nonce_rows, repeated, length_checks, receiver_rows, receiver_answer, with_counter, receiver_output, ReceiverCall}
+use Rattle.receiver_rules.specs.Receiver.{Receiver, no_window, begin, key_of, counter_of, repeated, length_checks, receiver_rows, receiver_answer, with_counter, receiver_output, ReceiverCall}
 use Rattle.receiver_rules.proofs.ReceiverLaws.{call-refused, next-refused, next-accepted, plain-call}
 use Rattle.receiver.specs.declared.receiver.Receiver as code
 use Rattle.receiver.specs.Values.{value_of, Tried}
@@ -49,13 +47,6 @@ handed_back {v} {N} {A} {C} {out} {out'} (Err y) x e call =
     subst (λ (z : Refusal). ReceiverCall (value_of v) N A C out (number_of_refusal z) (value_of v) out') (sym e) call
 
 -- ---- the checks of an opening
-
--- those of a nonce that has its length are that of its start
-pub start_is : {a x : ℕ} (prefix : ℕ) (N : List ℕ) → length N ≡ 12 → x ≡ prefix_of N → a ≡ answer (bad_start prefix x ∷ []) → a ≡ answer (nonce_rows prefix N)
-unfolding numbers is_in own_numbers
-start_is prefix N l p e =
-    passed_first (bad_nonce (length N) ∷ []) (bad_start prefix (prefix_of N) ∷ []) refl (sym (accepts (bad_nonce (length N) ∷ []) (has_length _ 12 l, tt)))
-    (e ∙ ap (λ (y : ℕ). answer (bad_start prefix y ∷ [])) p)
 
 module _ (t prefix : ℕ) (N : List ℕ) (ad ciphertext room : ℕ) where
   abbrev lengths : List Row

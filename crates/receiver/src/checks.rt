@@ -8,7 +8,7 @@ ghost use Rattle.receiver_rules.specs.Receiver.{nonce_rows, counter_of, length_c
 use crate::nonce::{counter_of, prefix_of};
 use answers::Refusal;
 use cba_steps::Parameters;
-use plain::{ad_check, ciphertext_check, start_check};
+use plain::{ad_check, ciphertext_check, start_check, whole_nonce};
 
 // 3 and 12: the counter of a nonce that begins with the prefix. A ledger's check is alike, and stays one
 // of its own: a shared one would take how the start is read as a closure, which is no plainer.
@@ -16,11 +16,9 @@ fn counter(prefix: u32, nonce: &[u8]) -> Result<u64, Refusal>
     ensures answer_value { number_of result ≡ answer (nonce_rows prefix nonce.now) }
     ensures counter_value { IfOk result (λ n. n ≡ counter_of nonce.now) }
 {
-    let Some(nonce) = nonce.as_array() else {
-        return Err(Refusal::Nonce);
-    };
-    start_check(prefix as u64, prefix_of(nonce) as u64)?;
-    Ok(counter_of(nonce))
+    let whole = whole_nonce(nonce)?;
+    start_check(prefix as u64, prefix_of(whole) as u64)?;
+    Ok(counter_of(whole))
 }
 
 // The checks of an opening after the set's and before 15: the counter of its nonce.

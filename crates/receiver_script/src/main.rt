@@ -28,7 +28,7 @@ ghost use Rattle.receiver_script.specs.Records.{made_by, put_by};
 use crate::call::Call;
 use crate::lines::{print_opened, print_outcome, print_receiver};
 use receiver::{Outcome, Receiver, Window};
-use script::{Record, each_record, fill};
+use script::{Record, fill, next_record};
 use std::io::Read;
 
 // What the calls' strings are made in.
@@ -146,15 +146,19 @@ fn step(
     }
 }
 
-// The other script program has its like: what they share is `each_record`.
+// Up to a million records. The other script program has its like: what they share is `next_record`.
 fn main(rt: HostRuntime) {
+    let mut input = rt.stdin();
     let mut b = Buffers {
         ad: &mut [0u8; 8192],
         text: &mut [0u8; 66000],
         out: &mut [0u8; 66000],
     };
     let mut v = hand_made(&Record { bytes: [0; 64] });
-    each_record(&mut rt.stdin(), |input, r| {
-        v = step(&rt, input, v, r, &mut b);
-    });
+    for _ in 0..1000000 {
+        let Some(r) = next_record(&mut input) else {
+            return;
+        };
+        v = step(&rt, &mut input, v, &r, &mut b);
+    }
 }

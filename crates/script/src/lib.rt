@@ -10,5 +10,5 @@ mod records;
 mod strings;
 
 pub use lines::{print_bytes, print_flag, print_nothing, print_number, print_output};
-pub use records::{Record, each_record};
+pub use records::{Record, next_record};
 pub use strings::fill;

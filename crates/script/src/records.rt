@@ -1,5 +1,6 @@
 // The parts of a record. Numbers are big-endian.
-ghost use Rattle.std.specs.Prelude.{◌≡◌, ◌+◌, ◌-◌, ◌*◌, ◌<◌, ◌≤◌, min, slice_index};
+ghost use Rattle.std.specs.Prelude.{◌≡◌, ◌+◌, ◌-◌, ◌*◌, ◌<◌, ◌≤◌, min, slice_index, IfSome};
+ghost use Rattle.std.specs.Io.KnownBytes.{Consumes};
 ghost use Rattle.script.specs.Records.{two, three, four, eight, flag, part};
 
 use std::io::Read;
@@ -76,15 +77,14 @@ impl Record {
     }
 }
 
-// Runs each record of the input, up to a million, with what comes after it.
-pub fn each_record<I: Read, F: FnMut(&mut I, &Record)>(input: &mut I, mut run: F)
-    requires { F.IsAlwaysCallable run }
+// The next record of the input, where there is a whole one. Of what comes after a failed read nothing is
+// said, and a script ends there.
+pub fn next_record<I: Read>(input: &mut I) -> Option<Record>
+    ensures { IfSome result (λ r. Consumes (I.remaining input.old) (I.remaining input.new) r.bytes) }
 {
-    for _ in 0..1000000 {
-        let mut r = Record { bytes: [0; 64] };
-        if input.read_exact(&mut r.bytes).is_err() {
-            return;
-        }
-        run(input, &r);
+    let mut r = Record { bytes: [0; 64] };
+    if input.read_exact(&mut r.bytes).is_err() {
+        return None;
     }
+    Some(r)
 }

@@ -1,18 +1,24 @@
 // Strings from a seed.
-ghost use Rattle.std.specs.Prelude.{◌≡◌, length};
-ghost use Rattle.script.specs.Strings.{seeded, filled};
+ghost use Rattle.std.specs.Prelude.{◌≡◌, ◌≤◌, length};
+ghost use Rattle.script.specs.Strings.{filled};
 
-// The byte at a place.
-fn byte_at(seed: u8, i: usize) -> u8
-    ensures { result ≡ seeded seed i }
+// At most 251 bytes: the seed and the numbers after it.
+fn fill_round(s: &mut [u8], seed: u8)
+    requires { length s.old ≤ 251 }
+    ensures { s.new ≡ filled seed (length s.old) }
 {
-    ((seed as usize + i % 251) % 256) as u8
+    for i in 0..s.len() {
+        s[i] = seed.wrapping_add(i as u8);
+    }
 }
 
+// In rounds of 251 bytes: within a round no byte waits for the one before it.
 pub fn fill(s: &mut [u8], seed: u8)
     ensures { s.new ≡ filled seed (length s.old) }
 {
-    for (i, byte) in s.iter_mut().enumerate() {
-        *byte = byte_at(seed, i);
+    for i in 0..s.len().div_ceil(251) {
+        let at = 251 * i;
+        let end = s.len().min(at + 251);
+        fill_round(&mut s[at..end], seed);
     }
 }

@@ -10,8 +10,8 @@ use Rattle.cba_steps.specs.Endings.{blocks_of}
 use Rattle.cba_sealing.proofs.TailLaws.{joined-tail-turn, separate_tail-turn}
 use Rattle.cba_sealing.proofs.forms.tail.Goals as goal
 
-pub full_blocks-s-requires : goal.full_blocks-s-requires
-full_blocks-s-requires c = record { text_holds_k_blocks = omega (arith, c.blocks-k.ensures, c.requires.ends.within); out_holds_k_blocks = omega (arith, c.blocks-k.ensures, c.requires.ends.within, c.requires.tag_in_bounds) }
+pub sealed_blocks-s-requires : goal.sealed_blocks-s-requires
+sealed_blocks-s-requires c = record { message_holds_k_blocks = omega (arith, c.blocks-k.ensures, c.requires.ends.within); out_holds_k_blocks = omega (arith, c.blocks-k.ensures, c.requires.ends.within, c.requires.tag_in_bounds) }
 
 pub joined_end-requires : goal.joined_end-requires
 joined_end-requires c =
@@ -26,7 +26,7 @@ returns-in-Joined c =
     let k : c.blocks-k.result ≡ c.in-Joined.blocks = c.blocks-k.ensures ∙ ap blocks_of c.in-Joined.is in
     rw (c.in-Joined.is, ← k)
     (joined-tail-turn (cipher c.args.e.now) (halves_of c.args.offset) c.args.tag.now c.args.message.now c.args.out.now _ c.joined_end.new.out _ _ c.blocks-k.result
-    (omega arith) (omega arith) c.requires.tag_in_bounds c.full_blocks-s.auto.out c.full_blocks-s.ensures.offset-is c.full_blocks-s.ensures.sum_is c.full_blocks-s.ensures.written c.joined_end.ensures c.joined_end.auto.out)
+    (omega arith) (omega arith) c.requires.tag_in_bounds c.sealed_blocks-s.auto.out c.sealed_blocks-s.ensures.offset-is c.sealed_blocks-s.ensures.sum_is c.sealed_blocks-s.ensures.written c.joined_end.ensures c.joined_end.auto.out)
 
 pub separate_end-requires : goal.separate_end-requires
 separate_end-requires c =
@@ -41,4 +41,4 @@ returns-in-Separate c =
     let k : c.blocks-k.result ≡ c.in-Separate.blocks = c.blocks-k.ensures ∙ ap blocks_of c.in-Separate.is in
     rw (c.in-Separate.is, ← k)
     (separate_tail-turn (cipher c.args.e.now) (halves_of c.args.offset) c.args.tag.now c.args.message.now c.args.out.now _ c.separate_end.new.out _ _ c.blocks-k.result
-    (omega (arith, c.requires.ends.within, c.blocks-k.ensures)) (omega arith) c.requires.tag_in_bounds c.full_blocks-s.auto.out c.full_blocks-s.ensures.offset-is c.full_blocks-s.ensures.sum_is c.full_blocks-s.ensures.written c.separate_end.ensures c.separate_end.auto.out)
+    (omega (arith, c.requires.ends.within, c.blocks-k.ensures)) (omega arith) c.requires.tag_in_bounds c.sealed_blocks-s.auto.out c.sealed_blocks-s.ensures.offset-is c.sealed_blocks-s.ensures.sum_is c.sealed_blocks-s.ensures.written c.separate_end.ensures c.separate_end.auto.out)

@@ -1,7 +1,8 @@
--- `ledger::ledger::begin` meets its contract.
+-- `ledger::ledger::begin` meets its contract: the key with zeros after it, and the rest of no ledger.
 -- Assumes nothing.
-use Rattle.ledger.proofs.ValueLaws.{begin_is}
+use Rattle.std.proofs.Common.{arith}
+use Rattle.ledger.proofs.ValueLaws.{fresh-key}
 use Rattle.ledger.proofs.ledger.begin.Goals as goal
 
 pub returns : goal.returns
-returns c = begin_is c.args.set c.args.key.now c.args.console c.put.ensures c.default.ensures
+returns c = grind (arith, fresh-key c.args.key.now c.put.ensures, c.default.ensures)

@@ -1,25 +1,29 @@
 -- `receiver::checks::counter` meets its contract: 3, then 12.
 -- Assumes nothing.
-use Rattle.std.proofs.Common.{[], length, sym, ap, ◌∙◌}
-use Rattle.answers.proofs.RowLaws.{refuses}
-use Rattle.answers.proofs.RefusalLaws.{handed_on}
-use Rattle.cba_rules.specs.Checks.{bad_nonce}
-use Rattle.cba_rules.proofs.RefusalLaws.{other_length}
+use Rattle.std.proofs.Common.{[], ◌∷◌, ℕ, length, refl, ap, ◌∙◌}
+use Rattle.answers.specs.Rows.{answer}
+use Rattle.answers.proofs.RefusalLaws.{refusal_not_zero, handed_on}
+use Rattle.cba_rules.specs.Checks.{bad_start}
+use Rattle.plain.proofs.GroupLaws.{nonce-refused, start_follows}
 use Rattle.receiver_rules.specs.Receiver.{prefix_of}
-use Rattle.receiver.proofs.CallLaws.{start_is}
 use Rattle.receiver.proofs.checks.counter.Goals as goal
 
-pub returns-in_default-clause-answer_value : goal.returns-in_default-clause-answer_value
-returns-in_default-clause-answer_value c = sym (refuses [] (bad_nonce (length c.args.nonce.now)) _ tt (other_length _ 12 c.in_default.ensures.cases))
+pub returns-in_err-whole-clause-answer_value : goal.returns-in_err-whole-clause-answer_value
+returns-in_err-whole-clause-answer_value c =
+    let n = c.args.nonce.now in
+    handed_on _ _ c.from_residual.ensures.1 ∙ nonce-refused c.args.prefix (length n) (prefix_of n) c.in_err-whole.ensures.answer_value (refusal_not_zero _)
 
 pub returns-in_err-start_check-clause-answer_value : goal.returns-in_err-start_check-clause-answer_value
 returns-in_err-start_check-clause-answer_value c =
-    let whole = c.in-Some.ensures.cases.long in
-    let its_own = c.prefix_of.ensures ∙ ap prefix_of c.in-Some.ensures.cases.same in
-    handed_on _ _ c.from_residual.ensures.1 ∙ start_is c.args.prefix c.args.nonce.now whole its_own c.in_err-start_check.ensures
+    let n = c.args.nonce.now in
+    let its_own = c.prefix_of.ensures ∙ ap prefix_of c.in_ok-whole.ensures.nonce_value in
+    handed_on _ _ c.from_residual-in_err-start_check.ensures.1
+    ∙ start_follows c.args.prefix (length n) (prefix_of n) c.in_ok-whole.ensures.answer_value refl
+    (c.in_err-start_check.ensures ∙ ap (λ (x : ℕ). answer (bad_start c.args.prefix x ∷ [])) its_own)
 
 pub returns-clause-answer_value : goal.returns-clause-answer_value
 returns-clause-answer_value c =
-    let whole = c.in-Some.ensures.cases.long in
-    let its_own = c.prefix_of.ensures ∙ ap prefix_of c.in-Some.ensures.cases.same in
-    start_is c.args.prefix c.args.nonce.now whole its_own c.in_ok-start_check.ensures
+    let n = c.args.nonce.now in
+    let its_own = c.prefix_of.ensures ∙ ap prefix_of c.in_ok-whole.ensures.nonce_value in
+    start_follows c.args.prefix (length n) (prefix_of n) c.in_ok-whole.ensures.answer_value refl
+    (c.in_ok-start_check.ensures ∙ ap (λ (x : ℕ). answer (bad_start c.args.prefix x ∷ [])) its_own)
